@@ -1,4 +1,3 @@
-pub mod Silent
 pub mod Owning
 pub mod Answered
 pub mod Walking

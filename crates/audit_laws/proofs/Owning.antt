@@ -23,9 +23,9 @@ use Rattle.gtrbac_model.specs.History.{AreLegalAfter, point_after}
 use Rattle.gtrbac_model.proofs.Elements.{split}
 use Rattle.history_laws.proofs.Refusing.{refused_leaves, refused_raises}
 use Rattle.history_laws.proofs.Lasting.{steps_after}
-use Rattle.audit_laws.specs.NoChange.{ChangesNothing}
+use Rattle.history_laws.specs.Looks.{ChangesNothing}
 use Rattle.audit_laws.specs.Owners.{session_of, IsOwn, is_refused, OwnersAct, OthersAreTurnedAway}
-use Rattle.audit_laws.proofs.Silent.{changes_nothing}
+use Rattle.history_laws.proofs.Silent.{changes_nothing}
 
 -- users of one number are one
 pub one_user : (a b : UserId) → same_user a b ≡ true → b ≡ a

@@ -1,4 +1,3 @@
-pub mod NoChange
 pub mod Owners
 pub mod Walks
 pub mod Denials

@@ -16,7 +16,7 @@ use Rattle.gtrbac_model.specs.Policy.{Policy}
 use Rattle.gtrbac_model.specs.Status.{Model}
 use Rattle.gtrbac_model.specs.Sessions.{Table, owner_of}
 use Rattle.gtrbac_model.specs.History.{Legal, point_after}
-use Rattle.audit_laws.specs.NoChange.{ChangesNothing}
+use Rattle.history_laws.specs.Looks.{ChangesNothing}
 
 -- the session that a request is for
 abbrev pub session_of : Request → Option SessionId

@@ -1,5 +1,6 @@
 -- A text that is longer.
-use Rattle.std.proofs.Common.{◌≡◌, ℕ, true, false, cond, List, [], ◌∷◌, ◌++◌, refl, sym, ap, subst, ◌∙◌, append-nil}
+use Rattle.std.proofs.Common.{◌≡◌, ℕ, zero, suc, ◌≤◌, true, false, cond, List, [], ◌∷◌, ◌++◌, length, take, refl, sym, ap, subst, ◌∙◌, append-nil, append_assoc, arith}
+use Rattle.std.proofs.lemmas.List.{append_cancel_left}
 use mathlib.Core.List.{IsPrefix}
 use Rattle.std.proofs.lemmas.List.Splits.{slice_split-cons_yes, slice_split-cons_no}
 use Rattle.std.specs.List.{slice_split, onto_first}
@@ -79,3 +80,29 @@ pub lines_more : (text more : List ℕ) → IsPrefix (whole_lines text) (whole_l
 lines_more text more =
     let k = nonempty more in
     (but_last ((open_line text ++ k.0) ∷ k.1), sym (ap but_last (cut_on text more ∙ ap (joined (cut text)) k.2) ∙ but_last_behind (whole_lines text) (open_line text ++ k.0) k.1))
+
+-- each beginning of the lines that bytes end is what a beginning of the bytes ends
+pub lines_begin : (text bytes : List ℕ) (lines : List (List ℕ)) (n : ℕ) → whole_lines (text ++ bytes) ≡ whole_lines text ++ lines → n ≤ length lines → (part : List ℕ) × IsPrefix part bytes × (whole_lines (text ++ part) ≡ whole_lines text ++ take n lines)
+lines_begin text bytes lines zero is low = ([], (bytes, refl), ap whole_lines (append-nil text) ∙ sym (append-nil (whole_lines text)))
+lines_begin text [] lines (suc n) is low =
+    let none : lines ≡ [] = append_cancel_left (whole_lines text) lines [] (sym is ∙ ap whole_lines (append-nil text) ∙ sym (append-nil (whole_lines text))) in
+    absurd (omega (arith, low, ap (λ (ls : List (List ℕ)). length ls) none))
+lines_begin text (b ∷ bs) lines (suc n) is low =
+    let next = text ++ b ∷ [] in
+    let same : next ++ bs ≡ text ++ b ∷ bs = append_assoc text (b ∷ []) bs in
+    let put : (part : List ℕ) → IsPrefix part bs → whole_lines (next ++ part) ≡ whole_lines text ++ take (suc n) lines → (part : List ℕ) × IsPrefix part (b ∷ bs) × (whole_lines (text ++ part) ≡ whole_lines text ++ take (suc n) lines) =
+    λ part within e. (b ∷ part, (within.0, ap (λ (l : List ℕ). b ∷ l) within.1), ap whole_lines (sym (append_assoc text (b ∷ []) part)) ∙ e) in
+    (elim (is_feed b) as (λ c. is_feed b ≡ c → (part : List ℕ) × IsPrefix part (b ∷ bs) × (whole_lines (text ++ part) ≡ whole_lines text ++ take (suc n) lines)) [
+      | true ↦ λ e.
+          let feed = lines_feed text b e in
+          let more = lines_more next bs in
+          let split : lines ≡ open_line text ∷ more.0 =
+          append_cancel_left (whole_lines text) lines (open_line text ∷ more.0) (sym is ∙ ap whole_lines (sym same) ∙ sym more.1 ∙ ap (λ (ls : List (List ℕ)). ls ++ more.0) feed ∙ append_assoc (whole_lines text) (open_line text ∷ []) more.0) in
+          let long = ap (λ (ls : List (List ℕ)). length ls) split in
+          let r = lines_begin next bs more.0 n (sym more.1) (omega (arith, low, long)) in
+          put r.0 r.1 (r.2 ∙ ap (λ (ls : List (List ℕ)). ls ++ take n more.0) feed ∙ append_assoc (whole_lines text) (open_line text ∷ []) (take n more.0) ∙ ap (λ (ls : List (List ℕ)). whole_lines text ++ take (suc n) ls) (sym split))
+      | false ↦ λ e.
+          let plain = lines_byte text b e in
+          let r = lines_begin next bs lines (suc n) (ap whole_lines same ∙ is ∙ ap (λ (ls : List (List ℕ)). ls ++ lines) (sym plain)) low in
+          put r.0 r.1 (r.2 ∙ ap (λ (ls : List (List ℕ)). ls ++ take (suc n) lines) plain)
+    ]) refl

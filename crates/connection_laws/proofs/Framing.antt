@@ -1,17 +1,25 @@
 -- What a framer knows of the text so far.
-use Rattle.std.proofs.Common.{◌≡◌, ℕ, ◌+◌, ◌<◌, ◌≤◌, true, false, List, [], ◌∷◌, ◌++◌, length, take, min, nat_le, refl, sym, ap, ◌∙◌, arith, length-append}
+use Rattle.std.proofs.Common.{◌≡◌, ℕ, zero, suc, ◌+◌, ◌<◌, ◌≤◌, true, false, List, [], ◌∷◌, ◌++◌, length, map, take, drop, get_or, add-zero, min, nat_le, refl, sym, ap, subst, ◌∙◌, arith, append_assoc, length-append, take-append-drop, Result}
+use mathlib.Core.List.{IsPrefix}
+use Rattle.std.proofs.Math.Seq.{take-add}
 use Rattle.std.specs.Prelude.{if◌then◌else◌}
 use mathlib.Core.Logic.{dite}
 use native.Mathlib.Decide.{dec_le}
 use Rattle.std.proofs.lemmas.Bool.{leb-true, leb-false}
-use Rattle.std.proofs.lemmas.List.{take_all, take-append-le, length-take-le}
+use Rattle.std.proofs.lemmas.List.{append-nil, map-append, length-drop, get_or-drop, take_all, take_more, take-append-le, length-take-le}
 use Rattle.gt_io.specs.declared.framer.Framed.{Framed}
 use Rattle.gt_io.specs.declared.framer.Framed.TheVariants.{More, Whole, Long}
-use Rattle.gt_io.specs.Frames.{Frame, begun, longer, pushed, framed, frame_of}
-use Rattle.connection_laws.specs.Cuts.{open_line}
+use Rattle.gt_io.specs.Frames.{Frame, begun, longer, pushed, framed, frame_of, PushesFront}
+use Rattle.gt_base.specs.declared.requests.Actor.TheVariants.{Nobody}
+use Rattle.policy_words.specs.Naming.{NamedPolicy}
+use Rattle.request_text.specs.declared.lines.Line.{Line}
+use Rattle.request_text.specs.declared.lines.LineFault.{LineFault}
+use Rattle.request_text.specs.Phrases.{read_line}
+use Rattle.connection_laws.specs.Attending.{AreRead}
+use Rattle.connection_laws.specs.Cuts.{whole_lines, open_line}
 use Rattle.gt_text.specs.Lines.{is_feed}
 use Rattle.connection_laws.specs.Fits.{FrameFits}
-use Rattle.connection_laws.proofs.Cutting.{open_feed, open_byte}
+use Rattle.connection_laws.proofs.Cutting.{lines_feed, open_feed, lines_byte, open_byte}
 
 cut_again : (line : List ℕ) (b : ℕ) → take 512 (line ++ b ∷ []) ≡ take 512 (take 512 line ++ b ∷ [])
 cut_again line b =
@@ -74,3 +82,44 @@ long_is f text b fits h =
     let high : 512 < (begun f).number = leb-false (begun f).number 512 w.1 in
     let number = ap (λ (g : Frame). g.number) fits in
     (w.0, omega (arith, high, number))
+
+-- the first bytes of a piece and the next ones begin it
+pub piece_on : (piece rest : List ℕ) (i n : ℕ) → rest ≡ drop i piece → take i piece ++ take n rest ≡ take (i + n) piece
+piece_on piece rest i n is = sym (take-add i n piece ∙ ap (λ (l : List ℕ). take i piece ++ take n l) (sym is))
+
+pub begins_piece : {xs : List ℕ} (piece : List ℕ) (i : ℕ) → xs ≡ take i piece → IsPrefix xs piece
+begins_piece piece i is = (drop i piece, ap (λ (l : List ℕ). l ++ drop i piece) is ∙ take-append-drop i piece)
+
+-- lines that are read ahead of their turn
+module _ (np : NamedPolicy) where
+  -- a byte within a line ends none
+  pub reads_byte : (text : List ℕ) (b : ℕ) (f : Frame) → FrameFits f text → is_feed b ≡ false → AreRead np text (b ∷ []) (pushed f b) []
+  reads_byte text b f fits other = record { lines = []; lines_are = lines_byte text b other ∙ sym (append-nil (whole_lines text)); said_are = refl; frame_fits = fits_byte f text b fits other }
+
+  -- a line feed ends the line that was open
+  pub reads_feed : (text : List ℕ) (b : ℕ) (f : Frame) (r : Result Line LineFault) → is_feed b ≡ true → read_line np Nobody false (open_line text) ≡ r → AreRead np text (b ∷ []) (pushed f b) (r ∷ [])
+  reads_feed text b f r feed is = record { lines = open_line text ∷ []; lines_are = lines_feed text b feed; said_are = ap (λ (x : Result Line LineFault). x ∷ []) is; frame_fits = fits_feed f text b feed }
+
+  -- the next byte of a piece
+  pub reads_next : (text piece : List ℕ) (i : ℕ) (f g : Frame) (rs ss : List (Result Line LineFault)) → i < length piece → AreRead np text (take i piece) f rs → AreRead np (text ++ take i piece) (get_or piece i 0 ∷ []) g ss → AreRead np text (take (i + 1) piece) g (rs ++ ss)
+  reads_next text piece i f g rs ss low a b =
+      let same : (text ++ take i piece) ++ get_or piece i 0 ∷ [] ≡ text ++ take (i + 1) piece = append_assoc text (take i piece) (get_or piece i 0 ∷ []) ∙ ap (λ (l : List ℕ). text ++ l) (sym (take_more piece i 0 low)) in
+      record {
+        lines = a.lines ++ b.lines;
+        lines_are = ap whole_lines (sym same) ∙ b.lines_are ∙ ap (λ (ls : List (List ℕ)). ls ++ b.lines) a.lines_are ∙ append_assoc (whole_lines text) a.lines b.lines;
+        said_are = map-append (read_line np Nobody false) a.lines b.lines ∙ ap (λ (l : List (Result Line LineFault)). l ++ map (read_line np Nobody false) b.lines) a.said_are ∙ ap (λ (l : List (Result Line LineFault)). rs ++ l) b.said_are;
+        frame_fits = subst (FrameFits g) same b.frame_fits;
+      }
+
+  -- the front of a line ends none
+  pub reads_past : (text piece rest : List ℕ) (i n : ℕ) (f g : Frame) (rs : List (Result Line LineFault)) → rest ≡ drop i piece → n ≤ length rest → AreRead np text (take i piece) f rs → PushesFront f rest n g → AreRead np text (take (i + n) piece) g rs
+  unfolding PushesFront
+  reads_past text piece rest i zero f g rs is low a front = subst (λ (h : Frame). AreRead np text (take (i + 0) piece) h rs) (sym front) (subst (λ (k : ℕ). AreRead np text (take k piece) f rs) (sym (add-zero i)) a)
+  reads_past text piece rest i (suc n) f g rs is low a (m, front, other, e) =
+      let long = ap (λ (l : List ℕ). length l) is ∙ length-drop i piece in
+      let byte : get_or rest n 0 ≡ get_or piece (i + n) 0 = ap (λ (l : List ℕ). get_or l n 0) is ∙ get_or-drop i piece n 0 in
+      let b = reads_past text piece rest i n f m rs is (omega (arith, low)) a front in
+      let next = reads_byte (text ++ take (i + n) piece) (get_or piece (i + n) 0) m b.frame_fits (subst (λ (x : ℕ). is_feed x ≡ false) byte other) in
+      let all = reads_next text piece (i + n) m (pushed m (get_or piece (i + n) 0)) rs [] (omega (arith, low, long)) b next in
+      let one : i + n + 1 ≡ i + suc n = omega arith in
+      subst (λ (k : ℕ). AreRead np text (take k piece) g rs) one (subst (λ (h : Frame). AreRead np text (take (i + n + 1) piece) h rs) (sym (e ∙ ap (pushed m) byte)) (subst (λ (l : List (Result Line LineFault)). AreRead np text (take (i + n + 1) piece) (pushed m (get_or piece (i + n) 0)) l) (append-nil rs) all))

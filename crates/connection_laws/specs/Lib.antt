@@ -9,6 +9,5 @@ pub mod Services
 pub mod Turns
 pub mod Acting
 pub mod Rooms
-pub mod Ahead
 pub mod Attending
 pub mod Clerks

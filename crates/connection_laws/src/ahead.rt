@@ -1,71 +1,66 @@
 //! Lines that are read ahead of their turn, so that a pass that keeps its turn for many lines does
-//! not read them in it.
-ghost use Rattle.std.specs.Prelude.{◌≡◌, ◌+◌, true, false, length, IfOk};
-ghost use Rattle.gt_base.specs.declared.requests.Actor.TheVariants.{Nobody};
-ghost use Rattle.request_text.specs.Phrases.{read_line};
-ghost use Rattle.request_text.specs.Lines.{IsNamedLine};
-ghost use Rattle.connection_laws.specs.Ahead.{AreRead};
+//! neither frame nor read them in it.
+ghost use Rattle.std.specs.Prelude.{◌≡◌, ℕ, ◌<◌, ◌≤◌, List, [], ◌∷◌, length, take, IfSome, All};
+ghost use Rattle.std.specs.Option.{option_to_list};
+ghost use Rattle.connection_laws.specs.Fits.{FrameFits};
+ghost use Rattle.connection_laws.specs.Attending.{IsRead, AreRead};
 
 use gt_base::Actor;
-use gt_text::Lines;
+use gt_io::{Framed, Framer};
 use policy_book::Policy;
 use request_text::{Line, LineFault, read_line};
-use std::alloc::Global;
 
-/// So many lines of a piece are read ahead at most.
-const MAX_AHEAD: usize = 64;
+/// So many lines are read ahead at most.
+pub(crate) const MAX_AHEAD: usize = 64;
 
-/// A line, and what it says.
+/// How many bytes were taken, and how many lines they end.
 #[derive(Clone, Copy)]
-pub struct ReadLine<'a> {
-    pub line: &'a [u8],
-    pub said: Result<Line, LineFault>,
+pub(crate) struct Ahead {
+    pub bytes: usize,
+    pub lines: usize,
 }
 
-/// What a line says, which is looked up at its place among those that were read, or read now.
-pub(crate) fn line_at(
-    policy: &Policy,
-    ahead: &[ReadLine<'_>],
-    place: usize,
-    line: &[u8],
-) -> Result<Line, LineFault>
-    requires read { AreRead policy.now ahead.now }
-    ensures value { result ≡ read_line policy.now Nobody false line.now }
-    ensures named { IfOk result (λ l. IsNamedLine policy.now.policy l) }
+/// Takes one more byte, and reads the line that it ends.
+fn read_byte(policy: &Policy, framer: &mut Framer, byte: u8) -> Option<Result<Line, LineFault>>
+    ensures read { (text : List ℕ) → FrameFits framer.old text
+        → AreRead policy.now text (byte ∷ []) framer.new (option_to_list result) }
+    ensures said { IfSome result (IsRead policy.now) }
 {
-    match ahead.get(place) {
-        Some(read) if read.line == line => read.said,
-        _ => read_line(policy, Actor::Nobody, false, line),
+    match framer.push(byte) {
+        Framed::More => None,
+        Framed::Whole => Some(read_line(policy, Actor::Nobody, false, framer.line())),
+        Framed::Long => Some(Err(LineFault::Long)),
     }
 }
 
-/// The first lines of a piece, as they are read; the last of a piece may go on. Without memory they
-/// are fewer.
-pub(crate) fn read_ahead<'a>(alloc: Global, policy: &Policy, piece: &'a [u8]) -> Vec<ReadLine<'a>>
-    ensures read { AreRead policy.now result.items }
+/// Takes the first bytes of a piece, and reads the lines that they end, as many as there is room
+/// for.
+pub(crate) fn read_ahead(
+    policy: &Policy,
+    framer: &mut Framer,
+    piece: &[u8],
+    said: &mut [Result<Line, LineFault>],
+) -> Ahead
+    ensures read { (text : List ℕ) → FrameFits framer.old text → AreRead policy.now text
+        (take result.bytes piece.now) framer.new (take result.lines said.new) }
+    ensures said { All (IsRead policy.now) (take result.lines said.new) }
+    ensures within { (result.bytes ≤ length piece.now) × (result.lines ≤ length said.new)
+        × (result.lines ≤ result.bytes) }
+    ensures some { 0 < length piece.now → 0 < length said.new → 0 < result.bytes }
 {
-    let mut ahead = Vec::new(alloc);
-    let mut lines = Lines::new(piece);
-    while ahead.len() < MAX_AHEAD {
-        if !push_read(policy, lines.next(), &mut ahead) {
-            return ahead;
+    let mut at = 0;
+    let mut lines = 0;
+    while at < piece.len() && lines < said.len() {
+        let (_, rest) = piece.split_at(at);
+        at += framer.push_front(rest);
+        if at < piece.len() {
+            let read = read_byte(policy, framer, piece[at]);
+            at += 1;
+            if let Some(line) = read {
+                said[lines] = line;
+                lines += 1;
+            }
         }
     }
-    ahead
-}
-
-/// Reads the line, if there is one, and puts it behind the others. Answers whether it did.
-fn push_read<'a>(policy: &Policy, line: Option<&'a [u8]>, ahead: &mut Vec<ReadLine<'a>>) -> bool
-    requires read { AreRead policy.now ahead.old.items }
-    ensures read { AreRead policy.now ahead.new.items }
-    ensures more { result ≡ true → length ahead.new.items ≡ length ahead.old.items + 1 }
-{
-    let Some(line) = line else {
-        return false;
-    };
-    let said = read_line(policy, Actor::Nobody, false, line);
-    match ahead.push(ReadLine { line, said }) {
-        Ok(()) => true,
-        Err(_) => false,
-    }
+    Ahead { bytes: at, lines }
 }

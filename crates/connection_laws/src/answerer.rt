@@ -1,22 +1,22 @@
 //! Who answers the requests of a link, and what one of its lines comes to.
-ghost use Rattle.std.specs.Prelude.{◌≡◌, ℕ, List};
+ghost use Rattle.std.specs.Prelude.{◌≡◌, ℕ, false, List};
 ghost use Rattle.gt_base.specs.declared.requests.Actor.{Actor};
+ghost use Rattle.gt_base.specs.declared.requests.Actor.TheVariants.{Nobody};
 ghost use Rattle.gt_base.specs.declared.requests.Request.{Request};
 ghost use Rattle.gt_base.specs.declared.requests.Entry.{Entry};
 ghost use Rattle.gtrbac_model.specs.History.{IsNamedWish, ask};
 ghost use Rattle.policy_words.specs.Naming.{NamedPolicy};
+ghost use Rattle.request_text.specs.Phrases.{read_line};
 ghost use Rattle.connection_laws.specs.Lines.{Answer};
 ghost use Rattle.connection_laws.specs.Desks.{IsNamedActor};
 ghost use Rattle.connection_laws.specs.Acting.{HasRoom};
 ghost use Rattle.connection_laws.specs.Rooms.{text_in, LendsRoom};
-ghost use Rattle.connection_laws.specs.Ahead.{AreRead};
-ghost use Rattle.connection_laws.specs.Attending.{IsPaced, AnswersOne, ActsBy};
+ghost use Rattle.connection_laws.specs.Attending.{IsRead, IsPaced, AnswersOne, ActsBy};
 
-use crate::ahead::{ReadLine, line_at};
 use crate::talk::{LineAnswer, Talk};
 use gt_base::{Actor, List, Request};
 use policy_book::Policy;
-use request_text::Line;
+use request_text::{Line, LineFault};
 
 /// Who answers the requests of a link, one after the other: a worker at the desk, or a viewer at
 /// its glass.
@@ -87,28 +87,26 @@ pub trait Answerer {
         ensures rests { rested self.new ≡ self.new };
 }
 
-/// Acts on a line, but for its reply: a line that asks is answered. Where it is the line at this
-/// place among those that were read ahead, it is not read again.
+/// Acts on a line by what it says, but for its reply: a line that asks is answered.
 pub fn act_by<A: Answerer>(
     answerer: &mut A,
     talk: &mut Talk,
     room: &mut List<u8>,
-    ahead: &[ReadLine<'_>],
-    place: usize,
-    line: &[u8],
+    said: Result<Line, LineFault>,
 ) -> LineAnswer
-    requires read { AreRead (A.named answerer.old) ahead.now }
+    requires read { IsRead (A.named answerer.old) said }
     requires ready { A.ready answerer.old }
     requires actor { IsNamedActor (A.named answerer.old) talk.old.actor }
     requires room { HasRoom talk.old 1 }
     ensures keeps { A.keeps answerer.old answerer.new }
     ensures ready { A.ready answerer.new }
     ensures named { A.named answerer.new ≡ A.named answerer.old }
-    ensures acts { ActsBy (A.named answerer.old) A.asks (A.wears (A.rested answerer.new))
-        (A.rested answerer.old) (A.rested answerer.new) talk.old talk.new line.now result }
+    ensures acts { (line : _) → read_line (A.named answerer.old) Nobody false line ≡ said
+        → ActsBy (A.named answerer.old) A.asks (A.wears (A.rested answerer.new))
+        (A.rested answerer.old) (A.rested answerer.new) talk.old talk.new line result }
     ensures lends { LendsRoom room.old room.new (text_in result) }
 {
-    match line_at(answerer.policy(), ahead, place, line) {
+    match said {
         Ok(Line::Ask(request)) => {
             talk.calls += 1;
             answerer.answer(talk.calls, talk.actor, request, room)

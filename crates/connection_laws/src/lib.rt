@@ -14,7 +14,6 @@ mod service;
 mod talk;
 
 pub use acts::{count, reply_of, take_back};
-pub use ahead::ReadLine;
 pub use answerer::{Answerer, act_by};
 pub use clerk::Clerk;
 pub use ends::{LinkEnd, Report};

@@ -1,24 +1,23 @@
-//! What one byte of a link comes to, whoever answers its requests.
-ghost use Rattle.std.specs.Prelude.{◌≡◌, ◌+◌, ◌<◌, ◌≤◌, ◌^◌, ℕ, true, false, [], ◌∷◌, length, Err, IfOk};
+//! What the bytes of a link come to, whoever answers its requests.
+ghost use Rattle.std.specs.Prelude.{◌≡◌, ◌+◌, ◌<◌, ◌≤◌, ◌^◌, ℕ, true, false, length, Err, IfOk, All};
 ghost use Rattle.std.specs.Io.KnownBytes.{ReadConsumes, WriteAppends};
 ghost use Rattle.gt_io.specs.Causes.{CountsEnd, HasCause, RisesOnce};
-ghost use Rattle.gt_io.specs.Frames.{blank_frame};
+ghost use Rattle.gt_io.specs.Frames.{Frame, blank_frame};
 ghost use Rattle.gt_io.specs.Links.{WritesNothing};
 ghost use Rattle.policy_words.specs.Naming.{NamedPolicy};
 ghost use Rattle.connection_laws.specs.Lines.{Answer};
 ghost use Rattle.connection_laws.specs.Rooms.{text_in, TakesBack};
-ghost use Rattle.connection_laws.specs.Ahead.{AreRead};
 ghost use Rattle.connection_laws.specs.Acting.{IsTold, counted_talk, CanCount};
-ghost use Rattle.connection_laws.specs.Attending.{IsStart, IsUnheard, CanTake, StaysReady, Sent, spot, TakesBytes, Attends};
+ghost use Rattle.connection_laws.specs.Attending.{IsRead, AreRead, IsStart, IsUnheard, CanTake, StaysReady, Sent, Spot, spot, HasReplied, TakesOn, TakesBytes, Attends};
 
 use crate::acts::{count, reply_of, take_back};
-use crate::ahead::{ReadLine, read_ahead};
+use crate::ahead::{MAX_AHEAD, read_ahead};
 use crate::answerer::{Answerer, act_by};
 use crate::ends::LinkEnd;
 use crate::talk::{LineAnswer, Talk};
 use gt_base::{Actor, List, MAX_BYTES};
-use gt_io::{Failed, Framed, Framer, Link, READ_PIECE, send_all};
-use request_text::LineFault;
+use gt_io::{Failed, Framer, Link, READ_PIECE, send_all};
+use request_text::{Line, LineFault};
 use std::alloc::Global;
 
 /// The line that a link is in, what the link has come to, and the buffer in which its replies go
@@ -28,7 +27,6 @@ pub struct Hearing {
     pub framer: Framer,
     pub talk: Talk,
     pub room: List<u8>,
-    alloc: Global,
 }
 
 impl Hearing {
@@ -48,7 +46,6 @@ impl Hearing {
                 calls,
             },
             room: List::new(alloc),
-            alloc,
         }
     }
 }
@@ -83,55 +80,48 @@ fn settle<L: Link>(
     }
 }
 
-/// Takes one more byte, and acts on the line that it ends, the one at this place if it was read
-/// ahead.
-fn take_byte<A: Answerer, L: Link>(
+/// Acts on lines by what they say, one after the other, up to the one at which the service is cut
+/// off.
+fn act_on<A: Answerer, L: Link>(
     answerer: &mut A,
     link: &mut L,
-    hearing: &mut Hearing,
-    ahead: &[ReadLine<'_>],
-    place: usize,
-    byte: u8,
+    talk: &mut Talk,
+    room: &mut List<u8>,
+    said: &[Result<Line, LineFault>],
 ) -> Result<(), LinkEnd>
-    requires read { AreRead (A.named answerer.old) ahead.now }
-    requires can { CanTake A.ready A.named answerer.old hearing.old.talk (L.traffic link.old)
-        1 }
-    ensures goes { TakesBytes (A.named answerer.old) A.asks A.wears
-        (spot (A.rested answerer.old) hearing.old.talk (L.traffic link.old).given)
-        (spot (A.rested answerer.new) hearing.new.talk (L.traffic link.new).given)
-        hearing.old.framer hearing.new.framer (byte ∷ []) (L.traffic link.old).write_faults
-        (L.traffic link.new).write_faults result }
-    ensures stays { StaysReady A.ready A.named answerer.old answerer.new hearing.old hearing.new
-        (L.traffic link.old) (L.traffic link.new) 1 result }
+    requires read { All (IsRead (A.named answerer.old)) said.now }
+    requires can { CanTake A.ready A.named answerer.old talk.old (L.traffic link.old)
+        (length said.now) }
+    ensures goes { (o : Spot A) (text bytes acted : _) (frame frame' : Frame)
+        → HasReplied (A.named answerer.old) A.asks o
+        (spot (A.rested answerer.old) talk.old (L.traffic link.old).given) frame text acted
+        → AreRead (A.named answerer.old) text bytes frame' said.now
+        → TakesOn (A.named answerer.old) A.asks A.wears o
+        (spot (A.rested answerer.new) talk.new (L.traffic link.new).given) frame' text bytes
+        (L.traffic link.old).write_faults (L.traffic link.new).write_faults result }
+    ensures stays { StaysReady A.ready A.named answerer.old answerer.new talk.old talk.new room.old
+        room.new (L.traffic link.old) (L.traffic link.new) (length said.now) result }
 {
-    match hearing.framer.push(byte) {
-        Framed::More => Ok(()),
-        Framed::Whole => {
-            let told = act_by(
-                answerer,
-                &mut hearing.talk,
-                &mut hearing.room,
-                ahead,
-                place,
-                hearing.framer.line(),
-            );
-            answerer.before_reply(&told);
-            settle(link, &mut hearing.talk, &mut hearing.room, told)
-        }
-        Framed::Long => {
-            let told = LineAnswer::Bad(LineFault::Long);
-            settle(link, &mut hearing.talk, &mut hearing.room, told)
+    for line in said {
+        let told = act_by(answerer, talk, room, *line);
+        answerer.before_reply(&told);
+        if let Err(end) = settle(link, talk, room, told) {
+            return Err(end);
         }
     }
+    Ok(())
 }
 
-/// Takes on a piece of bytes, up to the line in which the service is cut off.
+/// Takes on a piece of bytes, up to the line at which the service is cut off. Lines are framed and
+/// read before the turn in which they are acted on.
 fn take_bytes<A: Answerer, L: Link>(
     answerer: &mut A,
     link: &mut L,
     hearing: &mut Hearing,
+    said: &mut [Result<Line, LineFault>],
     piece: &[u8],
 ) -> Result<(), LinkEnd>
+    requires said { 0 < length said.old }
     requires can { CanTake A.ready A.named answerer.old hearing.old.talk (L.traffic link.old)
         (length piece.now) }
     ensures goes { TakesBytes (A.named answerer.old) A.asks A.wears
@@ -139,27 +129,24 @@ fn take_bytes<A: Answerer, L: Link>(
         (spot (A.rested answerer.new) hearing.new.talk (L.traffic link.new).given)
         hearing.old.framer hearing.new.framer piece.now (L.traffic link.old).write_faults
         (L.traffic link.new).write_faults result }
-    ensures stays { StaysReady A.ready A.named answerer.old answerer.new hearing.old hearing.new
-        (L.traffic link.old) (L.traffic link.new) (length piece.now) result }
-    ensures rests { A.rested answerer.new ≡ answerer.new }
+    ensures stays { StaysReady A.ready A.named answerer.old answerer.new hearing.old.talk
+        hearing.new.talk hearing.old.room hearing.new.room (L.traffic link.old)
+        (L.traffic link.new) (length piece.now) result }
+    ensures rests { A.rested answerer.old ≡ answerer.old → A.rested answerer.new ≡ answerer.new }
 {
-    let ahead = read_ahead(hearing.alloc, answerer.policy(), piece);
-    answerer.begin_piece();
-    let mut place = 0usize;
     let mut at = 0;
     while at < piece.len() {
         let (_, rest) = piece.split_at(at);
-        at += hearing.framer.push_front(rest);
-        if at < piece.len() {
-            if let Err(end) = take_byte(answerer, link, hearing, &ahead, place, piece[at]) {
-                answerer.end_piece();
-                return Err(end);
-            }
-            at += 1;
-            place = place.saturating_add(1);
+        let ahead = read_ahead(answerer.policy(), &mut hearing.framer, rest, said);
+        let (lines, _) = said.split_at(ahead.lines);
+        answerer.begin_piece();
+        let acted = act_on(answerer, link, &mut hearing.talk, &mut hearing.room, lines);
+        answerer.end_piece();
+        if let Err(end) = acted {
+            return Err(end);
         }
+        at += ahead.bytes;
     }
-    answerer.end_piece();
     Ok(())
 }
 
@@ -200,6 +187,7 @@ fn take_all<A: Answerer, L: Link>(answerer: &mut A, link: &mut L, hearing: &mut 
     ensures rests { A.rested answerer.old ≡ answerer.old → A.rested answerer.new ≡ answerer.new }
 {
     let mut buf = [0u8; READ_PIECE];
+    let mut said = [Ok(Line::Silent); MAX_AHEAD];
     let mut left = MAX_BYTES;
     while left > 0 {
         let Ok(n) = read_some(link, &mut buf, left) else {
@@ -209,7 +197,7 @@ fn take_all<A: Answerer, L: Link>(answerer: &mut A, link: &mut L, hearing: &mut 
             return LinkEnd::Ended;
         }
         left -= n;
-        if let Err(end) = take_bytes(answerer, link, hearing, &buf[..n]) {
+        if let Err(end) = take_bytes(answerer, link, hearing, &mut said, &buf[..n]) {
             return end;
         }
     }

@@ -45,7 +45,7 @@ use Rattle.time_engine.specs.Plans.{IsTimeline, with_pending, with_signal}
 use Rattle.time_engine.specs.Traces.{model_of}
 use Rattle.time_engine.proofs.HistoryLaws.{asks_follow}
 use Rattle.core_machine.specs.Coherent.{Coherent, point_of}
-use Rattle.core_machine.specs.Looks.{is_look}
+use Rattle.history_laws.specs.Looks.{is_look}
 use Rattle.core_machine.specs.Steps.{IsStill, is_nobody, with_signals}
 use Rattle.core_machine.proofs.Growing.{named_more, none_at_birth, one_more, bases_stay}
 use Rattle.core_machine.proofs.Closes.{follows_signals}

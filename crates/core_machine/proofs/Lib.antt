@@ -9,3 +9,4 @@ pub mod Raising
 pub mod Stops
 pub mod Births
 pub mod Still
+pub mod AmongLooks

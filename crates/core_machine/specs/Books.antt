@@ -20,10 +20,11 @@ use Rattle.policy_words.specs.Valid.{IsWellFormed}
 use Rattle.gtrbac_model.specs.Policy.{Policy}
 use Rattle.gtrbac_model.specs.Base.{base_at}
 use Rattle.gtrbac_model.specs.Reply.{Point, reply_of}
-use Rattle.gtrbac_model.specs.History.{Legal, IsNextStop, stirs, now_of, point_after, IsNamedWish, ask}
+use Rattle.gtrbac_model.specs.History.{Legal, IsExecutionModel, IsNextStop, stirs, now_of, point_after, IsNamedWish, ask}
 use Rattle.gtrbac_model.specs.Sessions.{Table}
 use Rattle.gtrbac_model.specs.Status.{Model}
 use Rattle.gtrbac_model.specs.Theorems.{IsOnlyModel}
+use Rattle.history_laws.specs.Looks.{without_looks}
 use Rattle.history_laws.specs.Named.{AreNamed}
 use Rattle.policy_words.specs.Naming.{NamedPolicy, named_policy_code}
 use Rattle.instant_bases.specs.Timelines.{ClosedSet, closed_set_code, TimelineView}
@@ -58,6 +59,13 @@ point_in b = point_after b.named.policy b.birth (model_in b) b.entries
 -- the model's reply to a request at now
 abbrev pub reply_in : BookView → Actor → Request → Reply
 reply_in b actor request = reply_of b.named.policy (point_in b) actor request
+
+-- so it is at each history whose entries are the book's but for those that only look
+abbrev pub IsReplyAmongLooks : BookView → Actor → Request → Reply → Type 0
+IsReplyAmongLooks b actor request reply =
+    (h : List Entry) (m : Model) → without_looks h ≡ b.entries
+    → IsExecutionModel b.named.policy b.birth h m
+    → reply ≡ reply_of b.named.policy (point_after b.named.policy b.birth m h) actor request
 
 -- the book's history is legal, with its trace as the execution model
 abbrev pub IsLegalBook : BookView → Type 0

@@ -2,5 +2,4 @@ pub mod Books
 pub mod Coherent
 pub mod Steps
 pub mod Agreeing
-pub mod Looks
 pub mod Ledgers

@@ -1,7 +1,7 @@
 //! Answers a request by its kind; nobody is refused.
 ghost use Rattle.std.specs.Prelude.{◌≡◌, false};
 ghost use Rattle.core_machine.specs.Coherent.{IsReady};
-ghost use Rattle.core_machine.specs.Looks.{is_look};
+ghost use Rattle.history_laws.specs.Looks.{is_look};
 ghost use Rattle.core_machine.specs.Steps.{IsStep, MayAsk, is_nobody};
 
 use crate::entering::{raise, tell};

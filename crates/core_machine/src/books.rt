@@ -6,12 +6,11 @@ ghost use Rattle.gtrbac_model.specs.Safety.{IsSafe};
 ghost use Rattle.session_table.specs.Tables.{NotBefore, table_of};
 ghost use Rattle.time_engine.specs.Histories.{Follows};
 ghost use Rattle.time_engine.specs.Traces.{AreSome, Ascends};
-ghost use Rattle.core_machine.specs.Books.{IsBook, now_in, model_in, reply_in, HasBases, HasOnlyModel, IsLegalBook, HasWaiting, IsNamedFor, IsTableIn, Ticks, Asks};
-ghost use Rattle.core_machine.specs.Looks.{is_look};
+ghost use Rattle.core_machine.specs.Books.{IsBook, now_in, model_in, reply_in, IsReplyAmongLooks, HasBases, HasOnlyModel, IsLegalBook, HasWaiting, IsNamedFor, IsTableIn, Ticks, Asks};
+ghost use Rattle.history_laws.specs.Looks.{is_look};
 ghost use Rattle.core_machine.specs.Steps.{as_step};
 
 use crate::asking::answer;
-use crate::entering::note;
 use crate::looking::look;
 use crate::prepared::Prepared;
 use crate::states::State;
@@ -221,32 +220,16 @@ impl Book {
         or_memory(answer(&mut self.state, who, actor, request))
     }
 
-    /// Answers a request that only looks, as at now, without an entry. For want of memory it may
+    /// Answers a request that only looks, as at now, without an entry. It gets the same at each
+    /// history whose entries are the book's but for those that only look. For want of memory it may
     /// refuse.
     pub fn peek(&self, actor: Actor, request: Request) -> Result<Reply, Memory>
         requires { is_look request ≡ true }
-        ensures { IfOk result (λ reply. reply ≡ reply_in self.now actor request) }
+        ensures now { IfOk result (λ reply. reply ≡ reply_in self.now actor request) }
+        ensures alike { IfOk result (λ reply. IsReplyAmongLooks self.now actor request reply) }
     {
+        self.keeps();
         look(&self.state, actor, &request)
-    }
-
-    /// Adds the entry of a request that only looks, with the reply that it gets at now. For want of
-    /// memory the book is as it was.
-    pub fn note(
-        &mut self,
-        who: Who,
-        actor: Actor,
-        request: Request,
-        reply: Reply,
-    ) -> Result<(), Memory>
-        requires looks { is_look request ≡ true }
-        requires named { IsNamedFor self.old actor request }
-        requires room { length self.old.entries < MAX_STEPS }
-        requires told { reply ≡ reply_in self.old actor request }
-        ensures ok { OnOk result (Asks self.old who actor request reply self.new) }
-        ensures err { OnErr result (self.new ≡ self.old) }
-    {
-        note(&mut self.state, who, actor, request, reply)
     }
 }
 

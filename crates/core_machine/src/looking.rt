@@ -9,7 +9,7 @@ ghost use Rattle.session_table.specs.Replies.{Answers};
 ghost use Rattle.session_table.specs.Tables.{table_of};
 ghost use Rattle.core_machine.specs.Books.{reply_in};
 ghost use Rattle.core_machine.specs.Coherent.{IsAnswer, IsCoherent, view_of};
-ghost use Rattle.core_machine.specs.Looks.{is_look};
+ghost use Rattle.history_laws.specs.Looks.{is_look};
 
 use crate::asking::is_nobody;
 use crate::states::State;

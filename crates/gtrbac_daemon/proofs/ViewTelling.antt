@@ -1,13 +1,13 @@
 -- A run with viewers: why it has its status, which status each cause has, and how one ends that goes well.
 use Rattle.std.proofs.Common.{◌≡◌, ◌⊎◌, ℕ, ◌≤◌, Bool, true, false, List, length, map, Option, Some, None, inl, inr, refl, subst, ◌∙◌}
-use Rattle.std.specs.Prelude.{is_some}
+use Rattle.std.specs.Prelude.{is_some, codes}
 use Rattle.std.specs.List.{list_any}
 use Rattle.gt_base.specs.declared.requests.Entry.{Entry}
 use Rattle.gt_io.specs.Links.{Traffic}
 use Rattle.turn_lock.specs.Turns.{Each}
 use Rattle.policy_words.specs.Naming.{NamedPolicy}
 use Rattle.snapshot_readers.specs.Seats.{HaveViewed}
-use Rattle.gtrbac_daemon.specs.Words.{views_named}
+use Rattle.gtrbac_daemon.specs.Words.{named_behind}
 use Rattle.gtrbac_daemon.specs.Crew.{Crewman, is_memory, is_door_fault, is_spent, ends_of, EachOf, SomeOf, IsUnharmed, IsDone, HasFailed, IsSpent}
 use Rattle.gtrbac_daemon.specs.Runs.{ServerScene, IsDueButFor, IsWell, ServerAnswers, ServerCause, unwritten, own}
 use Rattle.gtrbac_daemon.specs.Views.{Company, as_worker, everybody, views_status_by, first_late, views_status, OfAll, Compared, seen, unnamed, unseen, ViewHasServed, LacksViewMemory, for_somebody, to_name, to_compare, ViewCause, done, memory, failed, spent, late, ViewDues, view_way, RunsViews}
@@ -17,6 +17,10 @@ use Rattle.gtrbac_daemon.proofs.Somebody.{each_both}
 use Rattle.gtrbac_daemon.proofs.Endings.{fails_by, spends_by, well_by, fourteen_says, some_of, IsFresh, HasEnded, crew_ended, viewers_ended, told_viewed, failed_told, spent_told, sound_told, done_told, idle_done, idle_failed, idle_spent, memory_some, done_all, unharmed, cause_by}
 
 module _ {L : Type 0} (traffic : L → Traffic) (words : List (List ℕ)) (h : List Entry) (s : ℕ) (a b : ServerScene (Company L)) where
+  -- the name that the words say
+  abbrev said : Option (List ℕ)
+  said = named_behind (codes "views") words
+
   abbrev Due : ℕ → Type 0
   Due n = IsDueButFor (LacksViewMemory traffic h a.server b.server) s a b n
 
@@ -65,7 +69,7 @@ module _ {L : Type 0} (traffic : L → Traffic) (words : List (List ℕ)) (h : L
     own_by (unnamed e fourteen t) is = memory (is ∙ e) (inl (not_named fourteen))
     own_by (unseen e v) is = memory (is ∙ e) (inl (to_compare np birth v))
 
-    of_served : ServerCause (view_way traffic h) (views_named words) s a b
+    of_served : ServerCause (view_way traffic h) said s a b
     of_served =
         elim (written_says k.due _ s a.written b.written a.faults b.faults k.written) [ inl is ↦ own (own_by k.compared is) | inr f ↦ unwritten f.0 f.1 ]
 
@@ -91,22 +95,22 @@ module _ {L : Type 0} (traffic : L → Traffic) (words : List (List ℕ)) (h : L
     good_by w (unnamed e fourteen t) is = inr (inl (is ∙ e))
     good_by w (unseen e v) is = inr (inl (is ∙ e))
 
-    well : IsWell (λ c d. EachOf IsUnharmed (everybody c) (everybody d)) (views_named words) a b → (s ≡ 0) ⊎ (s ≡ 8) ⊎ (s ≡ 14)
+    well : IsWell (λ c d. EachOf IsUnharmed (everybody c) (everybody d)) said a b → (s ≡ 0) ⊎ (s ≡ 8) ⊎ (s ≡ 14)
     well w =
         elim (written_says k.due _ s a.written b.written a.faults b.faults k.written) [ inl is ↦ good_by w.server k.compared is | inr f ↦ absurd (w.output f.1) ]
 
   module _ (some : 1 ≤ length js) (fresh : Each IsFresh js) where
     -- a cause that only a company has that has served
-    due : (Has : List (Crewman L) → Type 0) → (Has js → ⊥) → Has ks → (n : ℕ) → (views_status h b.server ≡ n) ⊎ (wants ≡ true) → ServerAnswers (view_way traffic h) (views_named words) s a b → Due n
+    due : (Has : List (Crewman L) → Type 0) → (Has js → ⊥) → Has ks → (n : ℕ) → (views_status h b.server ≡ n) ⊎ (wants ≡ true) → ServerAnswers (view_way traffic h) said s a b → Due n
     due Has idle has n by answers =
-        Any.by_served (view_way traffic h) (views_named words) s a b (Due n) (λ same. idle (subst (λ (c : Company L). Has (everybody c)) same has)) (λ np birth k. due_at np birth k n by) answers
+        Any.by_served (view_way traffic h) said s a b (Due n) (λ same. idle (subst (λ (c : Company L). Has (everybody c)) same has)) (λ np birth k. due_at np birth k n by) answers
 
     -- where all are done, a number above the length decides
-    done_at : OfAll IsDone a.server b.server → (o : Option ℕ) → above ≡ o → (n : ℕ) → views_status_by false false false (is_some o) ≡ n → ServerAnswers (view_way traffic h) (views_named words) s a b → Due n
+    done_at : OfAll IsDone a.server b.server → (o : Option ℕ) → above ≡ o → (n : ℕ) → views_status_by false false false (is_some o) ≡ n → ServerAnswers (view_way traffic h) said s a b → Due n
     done_at x o e n is answers =
         due (EachOf IsDone js) (idle_done js js fresh some) x n (inl (done_told js ks x (is_some above) ∙ ((λ i. views_status_by false false false (is_some (e i))) ∙ is))) answers
 
-    dues_of : ServerAnswers (view_way traffic h) (views_named words) s a b → ViewDues traffic h s a b
+    dues_of : ServerAnswers (view_way traffic h) said s a b → ViewDues traffic h s a b
     dues_of answers =
         record {
           failed_is = λ x. due (SomeOf HasFailed js) (idle_failed js js fresh) x 10 (fails_by wants fails spends (is_some above) (failed_told js ks x)) answers;
@@ -115,11 +119,11 @@ module _ {L : Type 0} (traffic : L → Traffic) (words : List (List ℕ)) (h : L
           done_is = λ x e. done_at x None e 0 refl answers;
         }
 
-    pub runs : ServerAnswers (view_way traffic h) (views_named words) s a b → b.texts ≡ a.texts → (views_named words ≡ None → b ≡ record a { written = b.written; faults = b.faults }) → RunsViews traffic words s a b
+    pub runs : ServerAnswers (view_way traffic h) said s a b → b.texts ≡ a.texts → (said ≡ None → b ≡ record a { written = b.written; faults = b.faults }) → RunsViews traffic words s a b
     runs answers texts untouched =
         record {
           history = h;
           runs =
-              Any.runs (view_way traffic h) (views_named words) s a b of_served (λ k. memory k.0.0 (inr k)) dues_of
-              (λ answers w. Any.complete_of (view_way traffic h) (views_named words) s a b w ((s ≡ 0) ⊎ (s ≡ 8) ⊎ (s ≡ 14)) (λ np birth k. well np birth k w) (λ e. inr (inl e)) answers) answers texts untouched;
+              Any.runs (view_way traffic h) said s a b of_served (λ k. memory k.0.0 (inr k)) dues_of
+              (λ answers w. Any.complete_of (view_way traffic h) said s a b w ((s ≡ 0) ⊎ (s ≡ 8) ⊎ (s ≡ 14)) (λ np birth k. well np birth k w) (λ e. inr (inl e)) answers) answers texts untouched;
         }

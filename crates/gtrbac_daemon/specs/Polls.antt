@@ -1,5 +1,5 @@
 -- What a run of the polling server leaves, and how it ends.
-use Rattle.std.specs.Prelude.{◌≡◌, ◌⊎◌, ◌≤◌, ◌<◌, ◌+◌, ◌*◌, ℕ, List, length, slice_get, true, Some, Ok, Err, Option}
+use Rattle.std.specs.Prelude.{◌≡◌, ◌⊎◌, ◌≤◌, ◌<◌, ◌+◌, ◌*◌, ℕ, List, length, codes, slice_get, true, Some, Ok, Err, Option}
 use Rattle.gt_base.specs.declared.requests.Entry.{Entry}
 use Rattle.gt_base.specs.declared.limits.TheConstants.{MAX_LINKS}
 use Rattle.gt_io.specs.Causes.{Rose}
@@ -15,7 +15,7 @@ use Rattle.poll_front.specs.declared.front.RunEnd.{RunEnd}
 use Rattle.poll_front.specs.declared.front.RunEnd.TheVariants.{Stopped, PortFault, Enough, Worn, Memory}
 use Rattle.poll_front.specs.Fronts.{all_acted}
 use Rattle.poll_front.specs.Tables.{RunsTo, FaultsAreLast, EndsAreLast, is_worn_end, AreUnwornEnds, IsPolledFront}
-use Rattle.gtrbac_daemon.specs.Words.{poll_named}
+use Rattle.gtrbac_daemon.specs.Words.{named_behind}
 use Rattle.gtrbac_daemon.specs.Runs.{ServerScene, Headline, IsWritten, Starves, IsDueButFor, Way, Runs}
 
 -- who serves: the readings of the requests' clock, the ports, and how links ended
@@ -108,4 +108,4 @@ poll_way =
 
 -- what `daemon_poll` promises
 abbrev pub RunsPoll : List (List ℕ) → ℕ → ServerScene Polling → ServerScene Polling → Type 0
-RunsPoll words = Runs poll_way (poll_named words)
+RunsPoll words = Runs poll_way (named_behind (codes "poll") words)

@@ -11,7 +11,7 @@ use Rattle.snapshot_readers.specs.declared.ends.ViewerEnd.{ViewerEnd}
 use Rattle.snapshot_readers.specs.declared.ends.ViewerEnd.TheVariants as viewer
 use Rattle.snapshot_readers.specs.Crew.{all_lens}
 use Rattle.snapshot_readers.specs.Seats.{Watcher, AreToldOf, HaveViewed}
-use Rattle.gtrbac_daemon.specs.Words.{views_named}
+use Rattle.gtrbac_daemon.specs.Words.{named_behind}
 use Rattle.gtrbac_daemon.specs.Crew.{Crewman, is_memory, is_door_fault, is_spent, ends_of, SomeOf, EachOf, HasFailed, LacksMemory, IsSpent, IsSound, IsDone, IsUnharmed}
 use Rattle.gtrbac_daemon.specs.Headline.{CrewHeadline}
 use Rattle.gtrbac_daemon.specs.Runs.{ServerScene, IsWritten, Starves, IsDueButFor, Way, Runs}
@@ -155,4 +155,4 @@ module _ {L : Type 0} (traffic : L → Traffic) (h : List Entry) where
 pub record RunsViews {L : Type 0} (traffic : L → Traffic) (words : List (List ℕ)) (status : ℕ)
     (a b : ServerScene (Company L)) : Type 0 where
   pub history : List Entry
-  pub runs : Runs (view_way traffic history) (views_named words) status a b
+  pub runs : Runs (view_way traffic history) (named_behind (codes "views") words) status a b

@@ -17,11 +17,11 @@ abbrev pub policy_named : List (List ℕ) → Option (List ℕ)
 policy_named (name ∷ []) = if begins_with 45 name then None else Some name
 policy_named _ = None
 
--- the words are `poll` and the name of a policy, which does not begin with `-`
-abbrev pub poll_named : List (List ℕ) → Option (List ℕ)
-poll_named (verb ∷ name ∷ []) =
-    if bytes_eq verb (codes "poll") then policy_named (name ∷ []) else None
-poll_named _ = None
+-- the words are this verb and the name of a policy, which does not begin with `-`
+abbrev pub named_behind : List ℕ → List (List ℕ) → Option (List ℕ)
+named_behind wanted (verb ∷ name ∷ []) =
+    if bytes_eq verb wanted then policy_named (name ∷ []) else None
+named_behind wanted _ = None
 
 -- how the program serves: the mode of two words of which the first names one, else the plain one
 abbrev pub mode_named : List (List ℕ) → Mode
@@ -55,9 +55,3 @@ pub record IsSearched (a b : Stock) : Type 0 where
 abbrev pub HasText : Option (List ℕ) → Contents → (List ℕ → Type 0) → Type 0
 HasText name contents Holds =
     IfSome contents (λ text_of. IsSomeAnd name (λ n. IsSomeAnd (text_of n) Holds))
-
--- the words are `views` and the name of a policy, which does not begin with `-`
-abbrev pub views_named : List (List ℕ) → Option (List ℕ)
-views_named (verb ∷ name ∷ []) =
-    if bytes_eq verb (codes "views") then policy_named (name ∷ []) else None
-views_named _ = None

@@ -10,7 +10,7 @@ ghost use Rattle.gtrbac_daemon.specs.Polls.{poll_status, polling, HasPolled, pol
 use crate::finding::find_safe;
 use crate::printing::write_up;
 use crate::serving::open_desk;
-use crate::words::poll_word;
+use crate::words::word_behind;
 use connection_laws::Server;
 use core_machine::Ledger;
 use gt_base::List;
@@ -147,7 +147,7 @@ pub fn daemon_poll<R: Wait, S: Shelf, B: Clock, P: Ports, C: Clock, G: Gate, K: 
         (polling (C.readings clock.new) (P.harbour ports.new) ends.new.items) (K.output out.new)) }
     ensures once { AsksOnce (S.stock shelf.old) (S.stock shelf.new) }
 {
-    match find_safe(alloc, poll_word(words), shelf, out) {
+    match find_safe(alloc, word_behind("poll", words), shelf, out) {
         Ok(safe) => {
             let means = Means { rt, alloc, gate };
             poll_serve(&means, safe, birth, ports, clock, ends, out)

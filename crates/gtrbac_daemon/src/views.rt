@@ -1,6 +1,6 @@
 //! The one call of the server with viewers: from words, policy, clocks and links to the log and the
 //! exit status.
-ghost use Rattle.std.specs.Prelude.{◌≡◌, ◌≤◌, List, None, map, string_bytes, length, All};
+ghost use Rattle.std.specs.Prelude.{◌≡◌, ◌≤◌, List, None, codes, map, string_bytes, length, All};
 ghost use Rattle.gt_base.specs.declared.requests.Entry.{Entry};
 ghost use Rattle.gt_io.specs.Shelf.{AsksOnce, Stock};
 ghost use Rattle.snapshot_readers.specs.Seats.{watchers, IsNewViewer};
@@ -8,13 +8,13 @@ ghost use Rattle.gtrbac_daemon.specs.Crew.{IsNew, crewmen};
 ghost use Rattle.gtrbac_daemon.specs.Begins.{IsNewCompany};
 ghost use Rattle.gtrbac_daemon.specs.Runs.{server_scene, ServesPolicy};
 ghost use Rattle.gtrbac_daemon.specs.Views.{company, view_way, RunsViews};
-ghost use Rattle.gtrbac_daemon.specs.Words.{views_named};
+ghost use Rattle.gtrbac_daemon.specs.Words.{named_behind};
 
 use crate::finding::find_safe;
 use crate::views_serving::{open_board, serve_at};
 use crate::views_status::{due_of_all, first_of_viewers};
 use crate::views_writing::write_views;
-use crate::words::views_word;
+use crate::words::word_behind;
 use gt_io::{Clock, Door, Gate, Shelf, Sink};
 use line_server::Worker;
 use policy_safety::Safe;
@@ -121,12 +121,12 @@ where
         (server_scene (S.stock shelf.new) (B.readings birth.new)
         (company (crewmen C.readings D.doorway crew.new.items)
         (watchers D.doorway viewers.new.items)) (K.output out.new)) }
-    ensures unread { views_named (map string_bytes words.now) ≡ None
+    ensures unread { named_behind (codes "views") (map string_bytes words.now) ≡ None
         → (shelf.new ≡ shelf.old) × (birth.new ≡ birth.old) × (crew.new ≡ crew.old)
         × (viewers.new ≡ viewers.old) }
     ensures once { AsksOnce (S.stock shelf.old) (S.stock shelf.new) }
 {
-    match find_safe(alloc, views_word(words), shelf, out) {
+    match find_safe(alloc, word_behind("views", words), shelf, out) {
         Ok(safe) => serve_views(rt, alloc, safe, birth, crew, viewers, out),
         Err(status) => status,
     }

@@ -1,6 +1,6 @@
 //! The words of the program.
 ghost use Rattle.std.specs.Prelude.{◌≡◌, map, option_map, string_bytes};
-ghost use Rattle.gtrbac_daemon.specs.Words.{policy_named, poll_named, mode_named, views_named};
+ghost use Rattle.gtrbac_daemon.specs.Words.{policy_named, named_behind, mode_named};
 
 use policy_commands::is_dashed;
 
@@ -51,31 +51,14 @@ pub fn mode_of(words: &[String]) -> Mode
     }
 }
 
-/// The name of the policy that is to be served over ports, none where the words say no such
-/// command.
-pub(crate) fn poll_word(words: &[String]) -> Option<&str>
-    ensures { option_map (λ name. name.now) result ≡ poll_named (map string_bytes words.now) }
+/// The name of the policy behind this verb, none where the words are no such command.
+pub(crate) fn word_behind<'a>(wanted: &str, words: &'a [String]) -> Option<&'a str>
+    ensures { option_map (λ name. name.now) result
+        ≡ named_behind wanted.now (map string_bytes words.now) }
 {
     match words {
         [verb, name] => {
-            if verb.as_str() == "poll" && !is_dashed(name.as_str()) {
-                Some(name.as_str())
-            } else {
-                None
-            }
-        }
-        _ => None,
-    }
-}
-
-/// The name of the policy that is to be served with viewers, none where the words say no such
-/// command.
-pub(crate) fn views_word(words: &[String]) -> Option<&str>
-    ensures { option_map (λ name. name.now) result ≡ views_named (map string_bytes words.now) }
-{
-    match words {
-        [verb, name] => {
-            if verb.as_str() == "views" && !is_dashed(name.as_str()) {
+            if verb.as_str() == wanted && !is_dashed(name.as_str()) {
                 Some(name.as_str())
             } else {
                 None

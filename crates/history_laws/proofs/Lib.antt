@@ -1,5 +1,6 @@
 pub mod Blocking
 pub mod Lasting
+pub mod Silent
 pub mod Refusing
 pub mod Members
 pub mod Reading
@@ -13,7 +14,6 @@ pub mod Continuing
 pub mod Charging
 pub mod OnItsWay
 pub mod SmallOne
-pub mod Leaving
 pub mod AddingOne
 pub mod Naming
 pub mod NamedPoints

@@ -7,3 +7,4 @@ pub mod Pending
 pub mod Small
 pub mod Ticking
 pub mod Named
+pub mod Looks

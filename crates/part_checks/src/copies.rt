@@ -1,66 +1,73 @@
 //! Copies that entries are played on, one of which refuses.
-ghost use Rattle.std.specs.Prelude.{◌≡◌, ◌≤◌, ◌++◌, ◌∷◌, [], length, refl};
+ghost use Rattle.std.specs.Prelude.{◌≡◌, ◌≤◌, ◌++◌, [], length};
 ghost use mathlib.Core.List.{IsPrefix};
 
 use gt_base::{Entry, Instant, Memory, Step, Who};
 use left_right::Absorb;
-use published_copies::{Copies, Replica, Sight};
+use published_copies::{Batch, Copies, Replica, Sight};
 use std::alloc::{AllocError, Global};
 use std::collections::LinkedList;
 use std::sync::Wait;
 use std::test::Fail;
 
-/// A list of the ticks that were played, which refuses an entry while `refusals` is positive.
+/// A list of batches, which refuses one while `refusals` is positive.
 #[derive(Drop)]
 struct Fake {
-    played: Vec<Entry>,
+    taken: Vec<Batch>,
     refusals: u32,
 }
 
-impl Absorb<Entry> for Fake {
+impl Absorb<Batch> for Fake {
     type State = LinkedList<Entry>;
 
-    ghost state = { λ f. f.played.items };
+    ghost use Rattle.std.specs.Prelude.{◌++◌};
+    ghost use Rattle.published_copies.specs.Copied.{joined};
 
-    ghost applied = { λ xs e. xs ++ e ∷ [] };
+    ghost state = { λ f. joined f.taken.items };
 
-    fn absorb_first(&mut self, operation: &Entry, _other: &Fake) -> Result<(), AllocError> {
+    ghost applied = { λ xs es. xs ++ es };
+
+    fn absorb_first(&mut self, batch: &Batch, _other: &Fake) -> Result<(), AllocError> {
         if self.refusals > 0 {
             self.refusals -= 1;
             return Err(AllocError);
         }
-        let Step::Tick { upto, to } = operation.what else {
-            return Err(AllocError);
-        };
-        let played = Entry {
-            who: operation.who,
-            what: Step::Tick { upto, to },
-        };
-        match self.played.push(played) {
-            Ok(()) => Ok(()),
-            Err(_) => Err(AllocError),
-        }
+        self.taken.push(batch.shared()?)?;
+        Ok(())
     }
 }
 
 impl Replica for Fake {
     type Root = ();
 
+    ghost use Rattle.std.specs.Prelude.{refl};
+
     ghost root = { λ s. tt };
 
     ghost list = { λ s. s };
 
-    ghost adds = { λ s e. (refl, refl) };
+    ghost sound = { λ s. Unit {0} };
+
+    ghost adds = { λ s es. (refl, refl) };
 }
 
 /// A list of nothing, which refuses so many times.
 fn make_fake(alloc: Global, refusals: u32) -> Fake
-    ensures { result.played.items ≡ [] }
+    ensures { result.taken.items ≡ [] }
 {
     Fake {
-        played: Vec::new(alloc),
+        taken: Vec::new(alloc),
         refusals,
     }
+}
+
+/// How many entries were taken in.
+fn count(fake: &Fake) -> usize {
+    let mut n = 0_usize;
+    for batch in fake.taken.as_slice() {
+        n = n.saturating_add(batch.as_slice().len());
+    }
+    n
 }
 
 /// An entry that is a tick to this minute; None for a minute beyond the last.
@@ -77,7 +84,7 @@ fn tick(minute: u32) -> Option<Entry> {
 fn seen(sight: Sight<Fake>) -> (Sight<Fake>, usize) {
     match sight.look() {
         Ok(looking) => {
-            let n = looking.get().played.len();
+            let n = count(looking.get());
             (looking.leave(), n)
         }
         Err(sight) => (sight, usize::MAX),
@@ -110,7 +117,7 @@ fn four_times<R: Wait>(
     second: Fake,
     entries: &[Entry],
 ) -> Result<(Said, Said, Said, Said), Memory>
-    requires empty { (first.played.items ≡ []) × (second.played.items ≡ []) }
+    requires empty { (first.taken.items ≡ []) × (second.taken.items ≡ []) }
     requires some { 1 ≤ length entries.now }
 {
     let (front, _) = entries.split_at(1);

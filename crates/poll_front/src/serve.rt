@@ -11,9 +11,9 @@ use crate::bytes::{fill, write_out};
 use crate::ends::PollEnd;
 use crate::states::{LinkState, RunCounters, Yield};
 use connection_laws::{Clerk, LineAnswer, Server, act_by, count, take_back};
-use gt_base::{List, Machine};
+use gt_base::{Actor, List, Machine};
 use gt_io::{Clock, Framed, Gate, Ports};
-use request_text::LineFault;
+use request_text::{LineFault, read_line};
 use std::mem::replace;
 use std::sync::Wait;
 use turn_lock::Pass;
@@ -90,6 +90,7 @@ fn take_next<M: Machine, R: Wait, P: Ports, C: Clock, G: Gate>(
         Framed::Whole => {
             free_room(&mut state.room, &mut state.told);
             state.talk.calls = counters.calls;
+            let said = read_line(server.policy, Actor::Nobody, false, state.framer.line());
             let mut clerk = Clerk {
                 server: &*server,
                 pass,
@@ -97,8 +98,7 @@ fn take_next<M: Machine, R: Wait, P: Ports, C: Clock, G: Gate>(
                 reached: &mut counters.reached,
                 held: 0,
             };
-            let line = state.framer.line();
-            let told = act_by(&mut clerk, &mut state.talk, &mut state.room, &[], 0, line);
+            let told = act_by(&mut clerk, &mut state.talk, &mut state.room, said);
             counters.calls = state.talk.calls;
             count(&mut state.talk, &told);
             tell(ports, server.conn, state, told)

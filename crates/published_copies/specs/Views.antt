@@ -25,9 +25,15 @@ module _ {R : Type 0} where
   AllFit root list views =
       (seat : ℕ) (v : ReaderView R) → get_elem? views seat ≡ some v → Fits root list v
 
-  -- where the view v fits before, the view w is of the root and the entries after
-  abbrev pub Sighted : R → List Entry → R → List Entry → ReaderView R → ReaderView R → Type 0
-  Sighted root list root' list' v w = Fits root list v × (w ≡ sight root' list')
+  -- and the published state is sound
+  abbrev pub Shows : Type 0 → R → List Entry → List (ReaderView R) → Type 0
+  Shows Sound root list views = Sound × AllFit root list views
+
+  -- where the view v fits before, the view w is of the root and the entries after, which are sound
+  abbrev pub Sighted : Type 0 → R → List Entry → R → List Entry → ReaderView R → ReaderView R
+      → Type 0
+  Sighted Sound root list root' list' v w =
+      Fits root list v × (w ≡ sight root' list') × Sound
 
 -- what a look has: what the reader then knows, and the replica
 pub record Looked (T R : Type 0) : Type 0 where

@@ -1,13 +1,14 @@
 //! The copies, as their writer holds them.
-ghost use Rattle.std.specs.Prelude.{◌≡◌, ◌+◌, ◌^◌, ◌<◌, [], ◌∷◌, ◌++◌, length, IfOk, OnOk, MatchResult};
+ghost use Rattle.std.specs.Prelude.{◌≡◌, ◌+◌, ◌^◌, ◌<◌, [], ◌++◌, IfOk, OnOk, MatchResult};
 ghost use mathlib.Core.List.{IsPrefix};
 ghost use Rattle.published_copies.specs.Views.{sight};
 
+use crate::batch::Batch;
 use crate::looking::Sight;
 use crate::notes::{Learning, Telling};
 use crate::replica::Replica;
 use crate::views::{Growing, ReaderView, Sees};
-use gt_base::{Entry, Memory, Step};
+use gt_base::{Entry, Memory};
 use left_right::writer::Writer;
 use std::alloc::{AllocError, Global};
 use std::marker::Model;
@@ -16,12 +17,14 @@ use std::sync::Wait;
 /// Two copies of a replica, of which readers look at one. They are seen as their root, the entries
 /// that are published, and those that were sent and are not published yet. End them by `end`.
 pub struct Copies<T: Replica> {
-    writer: Writer<T, Entry, ReaderView<T::Root>, Growing>,
+    writer: Writer<T, Batch, ReaderView<T::Root>, Growing>,
+    alloc: Global,
+    /// How many entries were sent.
     sent: usize,
 }
 
 impl<T: Replica> Model for Copies<T> {
-    ghost use Rattle.published_copies.specs.Copied.{Copied};
+    ghost use Rattle.published_copies.specs.Copied.{Copied, joined};
 
     ghost Value = { Copied T.Root };
 
@@ -32,7 +35,7 @@ impl<T: Replica> Model for Copies<T> {
     ghost view = { λ c. record {
       root = T.root (T.state c.writer.desk.shown.value);
       shown = T.list (T.state c.writer.desk.shown.value);
-      waiting = drop c.writer.behind c.writer.log.items;
+      waiting = joined (drop c.writer.behind c.writer.log.items);
     } };
 
     ghost invariant = { λ c.
@@ -41,32 +44,7 @@ impl<T: Replica> Model for Copies<T> {
         (T.list (T.state c.writer.desk.shown.value)))
         × (c.sent
         ≡ length (T.list (T.state c.writer.desk.shown.value))
-        + length (drop c.writer.behind c.writer.log.items)) };
-}
-
-/// An equal entry.
-pub(crate) fn copy_of(entry: &Entry) -> Result<Entry, Memory>
-    ensures { IfOk result (λ copy. copy ≡ entry.now) }
-{
-    let what = match &entry.what {
-        Step::Tick { upto, to } => Step::Tick {
-            upto: *upto,
-            to: *to,
-        },
-        Step::Ask {
-            actor,
-            request,
-            reply,
-        } => Step::Ask {
-            actor: *actor,
-            request: *request,
-            reply: reply.copied()?,
-        },
-    };
-    Ok(Entry {
-        who: entry.who,
-        what,
-    })
+        + length (joined (drop c.writer.behind c.writer.log.items))) };
 }
 
 impl<T: Replica> Copies<T> {
@@ -81,13 +59,18 @@ impl<T: Replica> Copies<T> {
         requires readers { (0 < readers) × (readers < 2 ^ 32) }
         requires alike { T.state first ≡ T.state second }
         requires empty { T.list (T.state first) ≡ [] }
+        requires sound { T.sound (T.state first) }
         ensures { IfOk result
             (λ c. c ≡ record { root = T.root (T.state first); shown = []; waiting = [] }) }
     {
         let writer = Writer::new(alloc, first, second, readers)?;
         let (writer, told) = writer.publish_as::<Sees, R>(rt);
         match told {
-            Ok(()) => Ok(Copies { writer, sent: 0 }),
+            Ok(()) => Ok(Copies {
+                writer,
+                alloc,
+                sent: 0,
+            }),
             Err(_) => {
                 writer.take(rt);
                 Err(AllocError)
@@ -106,25 +89,28 @@ impl<T: Replica> Copies<T> {
         Ok(Sight { reader })
     }
 
-    /// Takes an entry for a later publication. For want of memory it stays out.
-    fn send(&mut self, entry: Entry) -> Result<(), Memory>
-        requires { length self.old.shown + length self.old.waiting + 1 < 2 ^ 64 }
-        ensures { MatchResult result
-            (λ _. self.new ≡ record self.old { waiting = self.old.waiting ++ entry ∷ [] })
+    /// Sends copies of those of the entries that were not sent. For want of memory none is sent.
+    fn send_rest(&mut self, entries: &[Entry]) -> Result<(), Memory>
+        requires { IsPrefix (self.old.shown ++ self.old.waiting) entries.now }
+        ensures same { (self.new.root ≡ self.old.root) × (self.new.shown ≡ self.old.shown) }
+        ensures sent { MatchResult result (λ _. self.new.shown ++ self.new.waiting ≡ entries.now)
             (λ _. self.new ≡ self.old) }
     {
-        match self.writer.append(entry) {
-            Ok(()) => {
-                self.sent += 1;
-                Ok(())
+        if self.sent < entries.len() {
+            let (_, rest) = entries.split_at(self.sent);
+            match self.writer.append(Batch::of(self.alloc, rest)?) {
+                Ok(()) => self.sent = entries.len(),
+                Err(_) => return Err(AllocError),
             }
-            Err(_) => Err(AllocError),
         }
+        Ok(())
     }
 
     /// Publishes what waits. Where nothing waits no copy is touched and no reader waited for. For
     /// want of memory in the copy that is brought up nothing is published.
     fn publish<R: Wait>(self, rt: &R) -> (Copies<T>, Result<(), Memory>)
+        requires sound { (s : T.State) → T.root s ≡ self.root → T.list s ≡ self.shown ++ self.waiting
+            → T.sound s }
         ensures { MatchResult result.1
             (λ _. result.0
             ≡ record { root = self.root; shown = self.shown ++ self.waiting; waiting = [] })
@@ -133,36 +119,42 @@ impl<T: Replica> Copies<T> {
         if !self.writer.has_pending_operations() {
             return (self, Ok(()));
         }
-        let Copies { writer, sent } = self;
+        let Copies {
+            writer,
+            alloc,
+            sent,
+        } = self;
         let (writer, told) = writer.publish_as::<Sees, R>(rt);
         match told {
-            Ok(()) => (Copies { writer, sent }, Ok(())),
-            Err(fault) => (Copies { writer, sent }, Err(fault)),
+            Ok(()) => (
+                Copies {
+                    writer,
+                    alloc,
+                    sent,
+                },
+                Ok(()),
+            ),
+            Err(fault) => (
+                Copies {
+                    writer,
+                    alloc,
+                    sent,
+                },
+                Err(fault),
+            ),
         }
-    }
-
-    /// Sends those of the entries that were not sent.
-    fn send_all(&mut self, entries: &[Entry]) -> Result<(), Memory>
-        requires { IsPrefix (self.old.shown ++ self.old.waiting) entries.now }
-        ensures same { (self.new.root ≡ self.old.root) × (self.new.shown ≡ self.old.shown) }
-        ensures front { IsPrefix (self.new.shown ++ self.new.waiting) entries.now }
-        ensures all { OnOk result (self.new.shown ++ self.new.waiting ≡ entries.now) }
-    {
-        while self.sent < entries.len() {
-            self.send(copy_of(&entries[self.sent])?)?;
-        }
-        Ok(())
     }
 
     /// Publishes all of the entries, of which those sent so far are the first ones. What there is
     /// no memory for waits for the next call.
     pub fn catch_up<R: Wait>(mut self, rt: &R, entries: &[Entry]) -> (Copies<T>, Result<(), Memory>)
-        requires { IsPrefix (self.shown ++ self.waiting) entries.now }
+        requires front { IsPrefix (self.shown ++ self.waiting) entries.now }
+        requires sound { (s : T.State) → T.root s ≡ self.root → T.list s ≡ entries.now → T.sound s }
         ensures root { result.0.root ≡ self.root }
         ensures front { IsPrefix (result.0.shown ++ result.0.waiting) entries.now }
         ensures all { OnOk result.1 ((result.0.shown ≡ entries.now) × (result.0.waiting ≡ [])) }
     {
-        match self.send_all(entries) {
+        match self.send_rest(entries) {
             Ok(()) => self.publish(rt),
             Err(fault) => (self, Err(fault)),
         }
@@ -170,7 +162,11 @@ impl<T: Replica> Copies<T> {
 
     /// Ends the copies. It waits for readers that look, and those find nothing from now on.
     pub fn end<R: Wait>(self, rt: &R) {
-        let Copies { writer, sent: _ } = self;
+        let Copies {
+            writer,
+            alloc: _,
+            sent: _,
+        } = self;
         writer.take(rt);
     }
 }

@@ -2,12 +2,14 @@
 //! other is brought up.
 #![tactic(auto)]
 
+mod batch;
 mod copies;
 mod looking;
 mod notes;
 mod replica;
 mod views;
 
+pub use batch::Batch;
 pub use copies::Copies;
 pub use looking::{Looking, Sight};
 pub use replica::Replica;

@@ -48,8 +48,9 @@ impl<T: Replica> Sight<T> {
     /// more.
     pub fn look(self) -> Result<Looking<T>, Sight<T>>
         ensures { MatchResult result
-            (λ l. Sighted (T.root (T.state l.replica)) (T.list (T.state l.replica))
-            (T.root (T.state l.replica)) (T.list (T.state l.replica)) self l.view)
+            (λ l. Sighted (T.sound (T.state l.replica)) (T.root (T.state l.replica))
+            (T.list (T.state l.replica)) (T.root (T.state l.replica)) (T.list (T.state l.replica))
+            self l.view)
             (λ s. s ≡ self) }
     {
         let Sight { reader } = self;

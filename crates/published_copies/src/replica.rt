@@ -1,13 +1,13 @@
 //! What entries are played on.
-ghost use Rattle.std.specs.Prelude.{◌≡◌, ◌++◌, ◌∷◌, [], List};
+ghost use Rattle.std.specs.Prelude.{◌≡◌, ◌++◌, List};
 ghost use Rattle.gt_base.specs.declared.requests.Entry.{Entry};
 
-use gt_base::Entry;
+use crate::batch::Batch;
 use left_right::Absorb;
 
-/// A value that entries are played on, one after the other, over a root that never changes. Its
-/// state is the root and the entries that were played.
-pub trait Replica: Absorb<Entry> + Drop {
+/// A value that entries are played on, batch after batch, over a root that never changes. Its state
+/// is the root and the entries that were played.
+pub trait Replica: Absorb<Batch> + Drop {
     /// What the root is told as. No value of it is made.
     type Root;
 
@@ -16,6 +16,9 @@ pub trait Replica: Absorb<Entry> + Drop {
     /// The entries that were played.
     ghost list: { Self.State → List Entry };
 
-    ghost adds: { (s : Self.State) (e : Entry)
-        → (root (Self.applied s e) ≡ root s) × (list (Self.applied s e) ≡ list s ++ e ∷ []) };
+    /// What holds of each state that is published.
+    ghost sound: { Self.State → Type 0 };
+
+    ghost adds: { (s : Self.State) (es : List Entry)
+        → (root (Self.applied s es) ≡ root s) × (list (Self.applied s es) ≡ list s ++ es) };
 }

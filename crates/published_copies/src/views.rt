@@ -10,13 +10,13 @@ pub struct ReaderView<R> {
     pub seen: LinkedList<Entry>,
 }
 
-/// The published entries only grow, over one root.
+/// The published entries are sound and only grow, over one root.
 pub struct Growing;
 
 impl<T: Replica> Protocol<T, ReaderView<T::Root>> for Growing {
-    ghost use Rattle.published_copies.specs.Views.{AllFit, blank};
+    ghost use Rattle.published_copies.specs.Views.{Shows, blank};
 
-    ghost holds = { λ p. AllFit (T.root (T.state p)) (T.list (T.state p)) };
+    ghost holds = { λ p. Shows (T.sound (T.state p)) (T.root (T.state p)) (T.list (T.state p)) };
 
     ghost first = { blank };
 }
@@ -28,6 +28,6 @@ impl<T: Replica> Outcome<T, ReaderView<T::Root>> for Sees {
     ghost use Rattle.published_copies.specs.Views.{Sighted};
 
     ghost then = { λ v x y w.
-        Sighted (T.root (T.state x)) (T.list (T.state x)) (T.root (T.state y))
+        Sighted (T.sound (T.state y)) (T.root (T.state x)) (T.list (T.state x)) (T.root (T.state y))
         (T.list (T.state y)) v w };
 }

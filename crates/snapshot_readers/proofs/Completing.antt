@@ -6,7 +6,7 @@ use Rattle.gt_base.specs.declared.requests.Request.{Request}
 use Rattle.gt_base.specs.declared.requests.Entry.{Entry}
 use Rattle.gt_io.specs.Links.{Traffic}
 use Rattle.policy_words.specs.Naming.{NamedPolicy}
-use Rattle.core_machine.specs.Looks.{is_look}
+use Rattle.history_laws.specs.Looks.{is_look}
 use Rattle.connection_laws.specs.Lines.{Answer, view_only, Acted}
 use Rattle.connection_laws.specs.Attending.{EndsBy, IsUnhindered, IsComplete}
 use Rattle.connection_laws.proofs.Linking as Link

@@ -12,7 +12,7 @@ use Rattle.request_text.specs.declared.lines.Line.{Line}
 use Rattle.request_text.specs.declared.lines.Line.TheVariants.{Silent, At, Be, Ask}
 use Rattle.request_text.specs.declared.lines.LineFault.{LineFault}
 use Rattle.request_text.specs.Phrases.{read_line}
-use Rattle.core_machine.specs.Looks.{is_look}
+use Rattle.history_laws.specs.Looks.{is_look}
 use Rattle.connection_laws.specs.Lines.{Answer, silence, agreed, bad, shown, no_memory, view_only, Acted, actor_after, readings_of, entries_of, GetsBy, AreActedBy}
 use Rattle.connection_laws.specs.Attending.{StepsBy, StepsThrough}
 use Rattle.connection_laws.proofs.Linking.{acted_so}

@@ -1,3 +1,4 @@
+pub mod Taking
 pub mod BookCrossing
 pub mod GlassSending
 pub mod BoardSending

@@ -13,7 +13,7 @@ use Rattle.turn_lock.proofs.PassLists.{each_reverse, each_unreverse}
 use Rattle.policy_words.specs.Naming.{NamedPolicy}
 use Rattle.request_text.specs.declared.lines.Line.{Line}
 use Rattle.request_text.specs.declared.lines.LineFault.{LineFault}
-use Rattle.core_machine.specs.Looks.{is_look}
+use Rattle.history_laws.specs.Looks.{is_look}
 use Rattle.connection_laws.specs.Desks.{IsReplyAt}
 use Rattle.snapshot_readers.specs.Glazed.{Glazed, fresh_glass}
 use Rattle.snapshot_readers.specs.declared.viewers.Viewer.{Viewer}
@@ -26,7 +26,8 @@ use Rattle.snapshot_readers.proofs.Longer.{take_longer, longer}
 use Rattle.snapshot_readers.proofs.Looking.{look_by}
 use Rattle.snapshot_readers.proofs.Linking.{viewed_longer}
 use Rattle.snapshot_readers.specs.declared.seats.ViewerSeat.{ViewerSeat}
-use Rattle.snapshot_readers.specs.Seats.{Watcher, watcher, watchers, HasLooked, IsNewViewer, glasses_of, viewers_of, IsHistory, HasSettled, IsOf, AreOf, AllAreOf, HasViewed, IsToldOf, AreToldOf, HaveViewed}
+use Rattle.snapshot_readers.specs.Seats.{Watcher, watcher, watchers, HasLooked, IsNewViewer, glasses_of, viewers_of, HasSettled, IsOf, AreOf, AllAreOf, HasViewed, IsToldOf, AreToldOf, HaveViewed}
+use Rattle.snapshot_readers.specs.Glances.{IsHistory}
 
 all_each : {A : Type 0} (P : A → Type 0) (xs : List A) → All P xs → Each P xs
 all_each P [] h = tt

@@ -6,15 +6,12 @@ use Rattle.gt_base.specs.declared.requests.Actor.TheVariants.{Nobody}
 use Rattle.gt_base.specs.declared.requests.Entry.{Entry}
 use Rattle.gt_base.specs.declared.requests.Request.{Request}
 use Rattle.gt_io.specs.Links.{Traffic, Doorway}
-use Rattle.gtrbac_model.specs.Policy.{Policy}
-use Rattle.gtrbac_model.specs.Status.{Model}
-use Rattle.gtrbac_model.specs.History.{Legal}
 use Rattle.policy_words.specs.Naming.{NamedPolicy}
 use Rattle.request_text.specs.declared.lines.Line.TheVariants.{Ask}
 use Rattle.request_text.specs.Phrases.{read_line}
-use Rattle.history_laws.specs.Named.{AreNamed}
 use Rattle.connection_laws.specs.Desks.{IsReplyAt}
 use Rattle.snapshot_readers.specs.Glazed.{Glazed}
+use Rattle.snapshot_readers.specs.Glances.{IsHistory}
 use Rattle.snapshot_readers.specs.declared.ends.Viewed.{Viewed}
 use Rattle.snapshot_readers.specs.declared.ends.ViewerEnd.{ViewerEnd}
 use Rattle.snapshot_readers.specs.declared.ends.ViewerEnd.TheVariants.{Fresh}
@@ -72,12 +69,6 @@ module _ {D G L : Type 0} where
 
   abbrev pub viewers_of : List (ViewerSeat D G L) → List (Viewer D G L)
   viewers_of seats = map (λ (s : ViewerSeat D G L). s.viewer) seats
-
--- the list is legal with some model, and its moves are the policy's
-pub record IsHistory (p : Policy) (birth : ℕ) (h : List Entry) : Type 0 where
-  pub model : Model
-  pub legal : Legal p birth h model
-  pub named : AreNamed p h
 
 -- a glass looked whether this history begins what was published last
 pub record HasSettled {D G L : Type 0} (h : List Entry) (x y : ViewerSeat D G L) : Type 0 where

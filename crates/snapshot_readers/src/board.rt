@@ -2,6 +2,7 @@
 ghost use Rattle.std.specs.Prelude.{◌≡◌, ◌≤◌, ◌++◌, [], replicate, IfOk, OnOk, IfErr};
 ghost use mathlib.Core.List.{IsPrefix};
 ghost use Rattle.snapshot_readers.specs.Glazed.{fresh_glass};
+ghost use Rattle.snapshot_readers.specs.Glances.{IsHistory};
 ghost use Rattle.core_machine.specs.Books.{SameRoot};
 
 use crate::book_copy::BookCopy;
@@ -108,6 +109,7 @@ impl<'a, R: Wait> Board<'a, R> {
         ensures ledger { self.new.ledger ≡ self.old.ledger }
         ensures all { OnOk result (self.new.shown ≡ self.new.ledger.entries) }
     {
+        self.ledger.keeps();
         let entries = self.ledger.book().entries().as_slice();
         let done = replace_with(&mut self.copies, (self.rt, entries), brought_up);
         self.steps = if done.is_ok() { 0 } else { MAX_STILL };
@@ -145,7 +147,8 @@ fn brought_up<R: Wait>(
     copies: Copies<BookCopy>,
     with: (&R, &[Entry]),
 ) -> (Copies<BookCopy>, Result<(), Memory>)
-    requires { IsPrefix (copies.shown ++ copies.waiting) with.1.now }
+    requires front { IsPrefix (copies.shown ++ copies.waiting) with.1.now }
+    requires history { IsHistory copies.root.0.policy copies.root.1 with.1.now }
     ensures root { result.0.root ≡ copies.root }
     ensures front { IsPrefix (result.0.shown ++ result.0.waiting) with.entry.1.now }
     ensures all { OnOk result.1 (result.0.shown ≡ with.entry.1.now) }
@@ -172,8 +175,9 @@ fn set_up<R: Wait>(
         (λ t. t.1.items ≡ replicate viewers (fresh_glass left.named left.birth)) }
 {
     let birth = left.birth();
-    let first = BookCopy::new(left);
-    let second = BookCopy::new(right);
+    left.keeps();
+    let first = BookCopy::new(alloc, left);
+    let second = BookCopy::new(alloc, right);
     let mut copies = Copies::new(rt, alloc, first, second, viewers as usize)?;
     match Glasses::over(alloc, &mut copies, viewers, policy, birth) {
         Ok(glasses) => Ok((copies, glasses)),

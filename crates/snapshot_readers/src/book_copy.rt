@@ -1,61 +1,119 @@
-//! A book on which the entries of another are played. What comes of each is held against the entry,
-//! so that the entries that agree are those that were sent.
-ghost use Rattle.std.specs.Prelude.{◌≡◌, ◌+◌, ◌++◌, ◌∷◌, [], true, take};
+//! A book on which the entries of another are played that do not only look. What comes of each is
+//! held against the entry, so that the entries that agree are those that were sent.
+ghost use Rattle.std.specs.Prelude.{◌≡◌, ◌+◌, ◌<◌, ◌++◌, ◌∷◌, [], true, take, IfSome, MatchResult};
 ghost use mathlib.Core.List.{IsPrefix};
 ghost use Rattle.gt_base.specs.Machines.{ticked, asked};
+ghost use Rattle.gt_base.specs.declared.limits.TheConstants.{MAX_STEPS};
+ghost use Rattle.history_laws.specs.Looks.{looks, without_looks};
 ghost use Rattle.core_machine.specs.Books.{SameRoot};
 
 use crate::named::names;
 use core_machine::{Book, only_looks};
-use gt_base::{Actor, Entry, Instant, MAX_STEPS, Reply, Request, Step, Who};
+use gt_base::{Actor, Entry, Instant, List, MAX_STEPS, Reply, Request, Step, Who};
 use left_right::Absorb;
 use policy_book::Policy;
-use published_copies::Replica;
-use same_entries::same_reply;
-use std::alloc::AllocError;
+use published_copies::{Batch, Replica};
+use same_entries::{same_entry, same_reply};
+use std::alloc::{AllocError, Global};
 use std::collections::LinkedList;
+use std::marker::Model;
 
-/// A book, and how many of its entries agree with those that were sent. Where these are not all,
-/// nothing more is played on it.
+/// The batches that were taken in and how many entries they have, a book on which those of these
+/// were played that do not only look, and how many of its entries agree with them. Where not all of
+/// them do, nothing is answered from it. It is seen as the policy and birth of the book, and all
+/// entries of the batches.
 pub struct BookCopy {
     pub(crate) book: Book,
     pub(crate) good: usize,
+    pub(crate) batches: List<Batch>,
+    pub(crate) len: usize,
+}
+
+impl Model for BookCopy {
+    ghost use Rattle.snapshot_readers.specs.Glazed.{Glazed};
+
+    ghost Value = { Glazed };
+
+    ghost use Rattle.std.specs.Prelude.{◌≡◌, length, take};
+    ghost use Rattle.history_laws.specs.Looks.{without_looks};
+    ghost use Rattle.published_copies.specs.Copied.{joined};
+
+    ghost view = { λ c. record {
+      named = c.book.named;
+      birth = c.book.birth;
+      seen = joined c.batches.items;
+    } };
+
+    ghost invariant = { λ c. (c.len ≡ length (joined c.batches.items))
+        × (without_looks (joined c.batches.items) ≡ take c.good c.book.entries) };
 }
 
 impl Drop for BookCopy {
     fn drop(self) {
-        let BookCopy { book: _, good: _ } = self;
+        let BookCopy {
+            book: _,
+            good: _,
+            batches: _,
+            len: _,
+        } = self;
     }
 }
 
 impl BookCopy {
-    /// The copy with nothing played.
-    pub fn new(book: Book) -> BookCopy
-        ensures { (result.book ≡ book) × (result.good ≡ 0) }
+    /// The copy with nothing taken in, over a book without entries.
+    pub fn new(alloc: Global, book: Book) -> BookCopy
+        ensures root { (result.named ≡ book.named) × (result.birth ≡ book.birth) }
+        ensures empty { result.seen ≡ [] }
     {
-        BookCopy { book, good: 0 }
+        BookCopy {
+            book,
+            good: 0,
+            batches: List::new(alloc),
+            len: 0,
+        }
+    }
+
+    /// Takes the batch in, and plays those of its entries that do not only look. It comes back for
+    /// want of memory, or where what came of one of them is not that entry.
+    fn take_in(&mut self, batch: Batch) -> Result<(), Batch>
+        ensures root { (self.new.named ≡ self.old.named) × (self.new.birth ≡ self.old.birth) }
+        ensures seen { MatchResult result (λ _. self.new.seen ≡ self.old.seen ++ batch)
+            (λ b. (b ≡ batch) × (self.new.seen ≡ self.old.seen)) }
+    {
+        if self.batches.reserve(1).is_err() {
+            return Err(batch);
+        }
+        let Some(len) = self.len.checked_add(batch.as_slice().len()) else {
+            return Err(batch);
+        };
+        match plays(&mut self.book, self.good, batch.as_slice()) {
+            Some(good) => self.good = good,
+            None => return Err(batch),
+        }
+        self.len = len;
+        self.batches.push(batch);
+        Ok(())
     }
 }
 
-impl Absorb<Entry> for BookCopy {
+impl Absorb<Batch> for BookCopy {
     type State = ((Policy, Instant), LinkedList<Entry>);
 
-    ghost use Rattle.std.specs.Prelude.{◌++◌, ◌∷◌, [], take};
+    ghost use Rattle.std.specs.Prelude.{◌++◌};
 
-    ghost state = { λ c. ((c.book.named, c.book.birth), take c.good c.book.entries) };
+    ghost state = { λ c. ((c.named, c.birth), c.seen) };
 
-    ghost applied = { λ s e. (s.0, s.1 ++ e ∷ []) };
+    ghost applied = { λ s es. (s.0, s.1 ++ es) };
 
-    fn absorb_first(&mut self, entry: &Entry, _other: &BookCopy) -> Result<(), AllocError> {
-        self.book.keeps();
-        if self.good != self.book.entries().len() {
-            return Err(AllocError);
+    fn absorb_first(&mut self, batch: &Batch, _other: &BookCopy) -> Result<(), AllocError> {
+        match self.take_in(batch.shared()?) {
+            Ok(()) => Ok(()),
+            Err(_) => Err(AllocError),
         }
-        if !repeat(&mut self.book, entry) {
-            return Err(AllocError);
-        }
-        self.good += 1;
-        Ok(())
+    }
+
+    fn absorb_second(&mut self, batch: Batch, _other: &BookCopy) -> Result<(), Batch> {
+        self.take_in(batch)
     }
 }
 
@@ -63,12 +121,25 @@ impl Replica for BookCopy {
     type Root = (Policy, Instant);
 
     ghost use Rattle.std.specs.Prelude.{refl};
+    ghost use Rattle.snapshot_readers.specs.Glances.{IsHistory};
 
     ghost root = { λ s. s.0 };
 
     ghost list = { λ s. s.1 };
 
-    ghost adds = { λ s e. (refl, refl) };
+    ghost sound = { λ s. IsHistory s.0.0.policy s.0.1 s.1 };
+
+    ghost adds = { λ s es. (refl, refl) };
+}
+
+/// Whether the step is a request that only looks.
+fn looks(step: &Step) -> bool
+    ensures { result ≡ looks step.now }
+{
+    match step {
+        Step::Tick { .. } => false,
+        Step::Ask { request, .. } => only_looks(request),
+    }
 }
 
 /// Ticks again, and says whether the tick went to the same instant.
@@ -85,7 +156,7 @@ fn tick_again(book: &mut Book, who: Who, upto: Instant, to: Instant) -> bool
     }
 }
 
-/// Asks again, and says whether the reply was the same. What only looks is added where it is.
+/// Asks again, and says whether the reply was the same.
 fn ask_again(book: &mut Book, who: Who, actor: Actor, request: Request, reply: &Reply) -> bool
     ensures root { SameRoot book.old book.new }
     ensures front { IsPrefix book.old.entries book.new.entries }
@@ -95,24 +166,8 @@ fn ask_again(book: &mut Book, who: Who, actor: Actor, request: Request, reply: &
     if !names(book.policy(), actor, &request) {
         return false;
     }
-    if !only_looks(&request) {
-        return match book.ask(who, actor, request) {
-            Ok(answer) => same_reply(&answer, reply),
-            Err(_) => false,
-        };
-    }
-    if book.entries().len() >= MAX_STEPS {
-        return false;
-    }
-    let wish = request;
-    let Ok(answer) = book.peek(actor, wish) else {
-        return false;
-    };
-    if !same_reply(&answer, reply) {
-        return false;
-    }
-    match book.note(who, actor, request, answer) {
-        Ok(()) => true,
+    match book.ask(who, actor, request) {
+        Ok(answer) => same_reply(&answer, reply),
         Err(_) => false,
     }
 }
@@ -131,4 +186,41 @@ fn repeat(book: &mut Book, entry: &Entry) -> bool
             reply,
         } => ask_again(book, entry.who, *actor, *request, reply),
     }
+}
+
+/// Whether the entry agrees with the one of the book that comes behind so many, as which it is
+/// played where the book has no more.
+fn agrees(book: &mut Book, good: usize, entry: &Entry) -> bool
+    ensures root { SameRoot book.old book.new }
+    ensures front { take good book.new.entries ≡ take good book.old.entries }
+    ensures same { result ≡ true → (good < MAX_STEPS)
+        × (take (good + 1) book.new.entries ≡ take good book.old.entries ++ entry.now ∷ []) }
+{
+    if good >= MAX_STEPS || good > book.entries().len() {
+        return false;
+    }
+    match book.entries().get(good) {
+        Some(played) => same_entry(played, entry),
+        None => repeat(book, entry),
+    }
+}
+
+/// Plays those of the entries that do not only look on a book of which so many entries agree, but
+/// for those that are played already. It answers how many agree then, if each of them does.
+fn plays(book: &mut Book, good: usize, entries: &[Entry]) -> Option<usize>
+    ensures root { SameRoot book.old book.new }
+    ensures front { take good book.new.entries ≡ take good book.old.entries }
+    ensures all { IfSome result (λ n. take n book.new.entries
+        ≡ take good book.old.entries ++ without_looks entries.now) }
+{
+    let mut upto = good;
+    for entry in entries {
+        if !looks(&entry.what) {
+            if !agrees(book, upto, entry) {
+                return None;
+            }
+            upto += 1;
+        }
+    }
+    Some(upto)
 }

@@ -1,9 +1,9 @@
 //! A glass, which looks at what the board published last.
-ghost use Rattle.std.specs.Prelude.{◌≡◌, ℕ, true, take, Some, IfOk};
+ghost use Rattle.std.specs.Prelude.{◌≡◌, ℕ, true, Some, IfOk};
 ghost use mathlib.Core.List.{IsPrefix};
 ghost use Rattle.policy_words.specs.Naming.{NamedPolicy};
-ghost use Rattle.core_machine.specs.Looks.{is_look};
-ghost use Rattle.snapshot_readers.specs.Glances.{IsGlance};
+ghost use Rattle.history_laws.specs.Looks.{is_look};
+ghost use Rattle.snapshot_readers.specs.Glances.{IsGlance, IsHistory};
 
 use crate::book_copy::BookCopy;
 use core::mem::replace_with;
@@ -54,14 +54,13 @@ impl Drop for Glass {
     }
 }
 
-/// Answers from a copy, where all of its entries agree with those that were sent.
+/// Answers from a copy, where all entries of its book agree with those that were sent.
 fn peek_at(copy: &BookCopy, actor: Actor, request: Request) -> Result<Glanced, Memory>
-    requires { is_look request ≡ true }
+    requires looks { is_look request ≡ true }
+    requires history { IsHistory copy.now.named.policy copy.now.birth copy.now.seen }
     ensures { IfOk result
-        (λ g. IsGlance copy.now.book.named.policy copy.now.book.birth
-        (take copy.now.good copy.now.book.entries) actor request g) }
+        (λ g. IsGlance copy.now.named.policy copy.now.birth copy.now.seen actor request g) }
 {
-    copy.book.keeps();
     if copy.good != copy.book.entries().len() {
         return Err(AllocError);
     }
@@ -69,16 +68,26 @@ fn peek_at(copy: &BookCopy, actor: Actor, request: Request) -> Result<Glanced, M
     Ok(Glanced {
         reply,
         at: copy.book.now(),
-        len: copy.good as u64,
+        len: copy.len as u64,
     })
 }
 
-/// Whether the entries begin those that agree in the copy.
-fn begin_in(entries: &[Entry], copy: &BookCopy) -> bool
-    ensures { result ≡ true → IsPrefix entries.now (take copy.now.good copy.now.book.entries) }
+/// Whether the entries are those of the copy.
+fn shows_all(copy: &BookCopy, entries: &[Entry]) -> bool
+    ensures { result ≡ true → entries.now ≡ copy.now.seen }
 {
-    let held = copy.book.entries().as_slice();
-    copy.good == held.len() && begins(entries, held)
+    if entries.len() != copy.len {
+        return false;
+    }
+    let mut at = 0;
+    for batch in copy.batches.as_slice() {
+        let (_, rest) = entries.split_at(at);
+        if !begins(batch.as_slice(), rest) {
+            return false;
+        }
+        at += batch.as_slice().len();
+    }
+    true
 }
 
 /// A look at the copy that was published last, with the answer from it.
@@ -101,7 +110,7 @@ fn glance_by(
     }
 }
 
-/// A look at the copy that was published last, and whether the entries begin it.
+/// A look at the copy that was published last, and whether it has these entries.
 fn told_by<'a>(sight: Sight<BookCopy>, entries: &'a [Entry]) -> (Sight<BookCopy>, bool)
     ensures root { (r : NamedPolicy × ℕ) → sight.root ≡ Some r → result.0.root ≡ Some r }
     ensures seen { IsPrefix sight.seen result.0.seen }
@@ -109,7 +118,7 @@ fn told_by<'a>(sight: Sight<BookCopy>, entries: &'a [Entry]) -> (Sight<BookCopy>
 {
     match sight.look() {
         Ok(looking) => {
-            let told = begin_in(entries, looking.get());
+            let told = shows_all(looking.get(), entries);
             (looking.leave(), told)
         }
         Err(sight) => (sight, false),
@@ -142,7 +151,7 @@ impl Glass {
         replace_with(&mut self.sight, (actor, request), glance_by)
     }
 
-    /// Looks whether the entries begin the history that was published last. Where they do, all that
+    /// Looks whether the entries are the history that was published last. Where they are, all that
     /// the glass sees from now on begins with them.
     pub fn told(&mut self, entries: &[Entry]) -> bool
         ensures root { (self.new.named ≡ self.old.named) × (self.new.birth ≡ self.old.birth) }

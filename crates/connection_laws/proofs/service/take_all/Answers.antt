@@ -73,7 +73,7 @@ loop-left-preserved g c =
       writes = c.in_default-take_bytes.ensures.stays.faults ∙ r.writes.write_faults_are ∙ inv.writes;
       ends = after.reads.ends_are ∙ r.ends.1 c.if-n-eq0.false ∙ inv.ends;
       held = after.held ∙ c.read_some.ensures.held ∙ inv.held;
-      rests = λ is. c.take_bytes.ensures.rests;
+      rests = λ is. c.take_bytes.ensures.rests (inv.rests is);
     }
 
 pub returns-in-Err-clause-attends : goal.returns-in-Err-clause-attends

@@ -1,5 +1,4 @@
-use Rattle.history_laws.proofs.Refusing.{refused_changes_nothing}
-use Rattle.history_laws.proofs.Leaving.{legal_without_refused}
+use Rattle.history_laws.proofs.Refusing.{refused_changes_nothing, legal_without_refused}
 use Rattle.history_laws.proofs.histories.refused_changes_nothing.Goals as goal
 
 pub returns : goal.returns

@@ -51,6 +51,8 @@ returns-in-Whole g c =
     let a = g.P.Ports.harbour c.args.ports.now in
     let b = g.P.Ports.harbour c.tell.new.ports in
     let told = c.act_by-told in
+    let line = c.line.result.now in
+    let acted = told.ensures.acts line (sym c.read_line-said.ensures.value) in
     let clerk = told.new.answerer in
     let pass = c.pass-1.given in
     let clock = c.clock-1.given in
@@ -62,14 +64,14 @@ returns-in-Whole g c =
     let s : LinkState = c.args.state.now in
     let byte : ℕ = get_or s.chunk s.from 0 in
     let acts =
-    subst (λ (h : Holder g.row.M.Denot). ActsBy sv.policy.now (ClerkAsks {M = g.row.M.Denot} v who) (WearsAt h.draws) (clerk_view p.pass p.clock) (clerk_view h (k.readings clock.0)) (record s.talk { calls = p.counters.calls }) told.new.talk c.line-line.result.now told.result) pass_is
-    (subst (λ (q : g.row.C.Denot). ActsBy sv.policy.now (ClerkAsks {M = g.row.M.Denot} v who) (WearsAt clerk.pass.now.draws) (clerk_view p.pass p.clock) (clerk_view clerk.pass.now (k.readings q)) (record s.talk { calls = p.counters.calls }) told.new.talk c.line-line.result.now told.result) (sym (clock.1 (sym told.ensures.keeps.2)))
-    (lent_acts g.M.Keeps.list m.legal m.now_of k.readings sv.policy.now _ (rested_clerk clerk) (record s.talk { calls = p.counters.calls }) told.new.talk c.line-line.result.now told.result told.ensures.acts)) in
+    subst (λ (h : Holder g.row.M.Denot). ActsBy sv.policy.now (ClerkAsks {M = g.row.M.Denot} v who) (WearsAt h.draws) (clerk_view p.pass p.clock) (clerk_view h (k.readings clock.0)) (record s.talk { calls = p.counters.calls }) told.new.talk line told.result) pass_is
+    (subst (λ (q : g.row.C.Denot). ActsBy sv.policy.now (ClerkAsks {M = g.row.M.Denot} v who) (WearsAt clerk.pass.now.draws) (clerk_view p.pass p.clock) (clerk_view clerk.pass.now (k.readings q)) (record s.talk { calls = p.counters.calls }) told.new.talk line told.result) (sym (clock.1 (sym told.ensures.keeps.2)))
+    (lent_acts g.M.Keeps.list m.legal m.now_of k.readings sv.policy.now _ (rested_clerk clerk) (record s.talk { calls = p.counters.calls }) told.new.talk line told.result acted)) in
     let root = sv.desk.now.root in
     let knows =
     subst (λ (h : Holder g.row.M.Denot). IsReached (m.legal root) (m.now_of root) h.seen clerk.reached.now) pass_is
     (subst (λ z. IsReached (m.legal z.now.desk.now.root) (m.now_of z.now.desk.now.root) clerk.pass.now.seen clerk.reached.now) told.ensures.keeps.0 told.ensures.ready.reached) in
-    let x = hears_acts v who p p' s.talk told.new.talk talk c.line-line.result.now told.result acts refl (c.count.ensures v.policy acts.acted.answer acts.told_is) in
+    let x = hears_acts v who p p' s.talk told.new.talk talk line told.result acts refl (c.count.ensures v.policy acts.acted.answer acts.told_is) in
     let same = c.tell.ensures.same in
     let back = back_with s.room c.free_room.new.room (text_in s.told) c.free_room.ensures.back in
     let lent = lent_with c.free_room.new.room told.new.room (text_in told.result) told.ensures.lends in
@@ -80,7 +82,7 @@ returns-in-Whole g c =
           (steps_line v p p' a b sv.conn s byte talk told.new.room c.requires.live.live c.requires.told c.requires.some.0 refl told.result c.tell.new.state.at c.tell.result
           (λ fed fits.
           let w = whole_is s.framer fed byte fits (sym c.push.ensures.answer ∙ c.in-Whole.is) in
-          (w.0, subst (λ (l : List ℕ). Hears v who p p' s.talk talk l told.result) (c.line-line.ensures ∙ ap (λ (f : Frame). f.bytes) c.push.ensures.frame ∙ w.1) x)) c.tell.ensures.tells);
+          (w.0, subst (λ (l : List ℕ). Hears v who p p' s.talk talk l told.result) (c.line.ensures ∙ ap (λ (f : Frame). f.bytes) c.push.ensures.frame ∙ w.1) x)) c.tell.ensures.tells);
       ready = (heard_idle x (site_of sv.desk.now) c.requires.ready.asks.idle, knows);
       actor = subst (λ (z : LinkState). IsNamedActor sv.policy.now z.talk.actor) (sym same) x.named;
       counts = subst (λ (z : LinkState). CountsOne s.talk z.talk p.counters p'.counters) (sym same) (heard_counts x);

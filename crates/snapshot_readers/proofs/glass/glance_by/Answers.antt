@@ -1,10 +1,10 @@
-use Rattle.std.proofs.Common.{ℕ, take, Some, sym, ap, subst, ◌∙◌}
+use Rattle.std.proofs.Common.{ℕ, Some, sym, ap, subst, ◌∙◌}
 use Rattle.std.specs.Prelude.{IfOk}
 use mathlib.Core.List.{IsPrefix}
 use Rattle.policy_words.specs.Naming.{NamedPolicy}
 use Rattle.published_copies.specs.declared.views.ReaderView.{ReaderView}
-use Rattle.snapshot_readers.specs.declared.book_copy.BookCopy.{BookCopy}
-use Rattle.snapshot_readers.specs.Glances.{IsGlance}
+use Rattle.snapshot_readers.specs.Glazed.{Glazed}
+use Rattle.snapshot_readers.specs.Glances.{IsGlance, IsHistory}
 use Rattle.snapshot_readers.proofs.glass.glance_by.Goals as goal
 
 pub returns-in-Ok-clause-root : goal.returns-in-Ok-clause-root
@@ -18,7 +18,10 @@ pub returns-in-Ok-clause-ok : goal.returns-in-Ok-clause-ok
 returns-in-Ok-clause-ok c = λ r is.
     let answer = c.peek_at-answer.result in
     let a = c.args.asked in
-    let at = c.in-Ok.looking.replica.book in
+    let at = c.in-Ok.looking.replica in
     subst (λ (x : NamedPolicy × ℕ). IfOk answer (λ g. IsGlance x.0.policy x.1 c.leave.result.seen a.0 a.1 g)) (sym (c.in-Ok.ensures.0.root_is r is))
     (subst (λ (v : ReaderView (NamedPolicy × ℕ)). IfOk answer (λ g. IsGlance at.named.policy at.birth v.seen a.0 a.1 g)) (sym (c.leave.ensures ∙ c.in-Ok.ensures.1))
-    (subst (λ (b : BookCopy). IfOk answer (λ g. IsGlance b.book.named.policy b.book.birth (take b.good b.book.entries) a.0 a.1 g)) c.get.ensures c.peek_at-answer.ensures))
+    (subst (λ (b : Glazed). IfOk answer (λ g. IsGlance b.named.policy b.birth b.seen a.0 a.1 g)) c.get.ensures c.peek_at-answer.ensures))
+
+pub peek_at-answer-requires-clause-history : goal.peek_at-answer-requires-clause-history
+peek_at-answer-requires-clause-history c = subst (λ (b : Glazed). IsHistory b.named.policy b.birth b.seen) (sym c.get.ensures) c.in-Ok.ensures.2

@@ -1,8 +1,8 @@
-use Rattle.std.proofs.Common.{ℕ, take, Some, sym, ap, subst, ◌∙◌}
+use Rattle.std.proofs.Common.{ℕ, [], append-nil, Some, sym, ap, subst, ◌∙◌}
 use mathlib.Core.List.{IsPrefix}
 use Rattle.policy_words.specs.Naming.{NamedPolicy}
 use Rattle.published_copies.specs.declared.views.ReaderView.{ReaderView}
-use Rattle.snapshot_readers.specs.declared.book_copy.BookCopy.{BookCopy}
+use Rattle.snapshot_readers.specs.Glazed.{Glazed}
 use Rattle.snapshot_readers.proofs.glass.told_by.Goals as goal
 
 pub returns-in-Ok-clause-root : goal.returns-in-Ok-clause-root
@@ -15,4 +15,4 @@ returns-in-Ok-clause-seen c = subst (λ (v : ReaderView (NamedPolicy × ℕ)). I
 pub returns-in-Ok-clause-told : goal.returns-in-Ok-clause-told
 returns-in-Ok-clause-told c = λ yes.
     subst (λ (v : ReaderView (NamedPolicy × ℕ)). IsPrefix c.args.entries.now v.seen) (sym (c.leave.ensures ∙ c.in-Ok.ensures.1))
-    (subst (λ (b : BookCopy). IsPrefix c.args.entries.now (take b.good b.book.entries)) c.get.ensures (c.begin_in-told.ensures yes))
+    (subst (λ (b : Glazed). IsPrefix c.args.entries.now b.seen) c.get.ensures ([], append-nil c.args.entries.now ∙ c.shows_all-told.ensures yes))

@@ -1,5 +1,5 @@
--- A request that is read for no table and queues nothing may be left out of a history.
-use Rattle.std.proofs.Common.{◌≡◌, ℕ, ◌-◌, ◌≤◌, ◌||◌, true, nat_lt, List, [], ◌∷◌, ◌++◌, refl, sym, ◌∙◌, ap, subst, append_assoc, if◌then◌else◌}
+-- A request that is read for no table and queues nothing may be left out of a history, and so may all that only look.
+use Rattle.std.proofs.Common.{◌≡◌, ℕ, ◌-◌, ◌≤◌, ◌||◌, Bool, true, false, nat_lt, List, [], ◌∷◌, ◌++◌, refl, sym, ◌∙◌, ap, subst, append_assoc, if◌then◌else◌}
 use Rattle.gt_base.specs.Happening.{nothing}
 use Rattle.gt_base.specs.Machines.{asked}
 use Rattle.gt_base.specs.Sets.{set_of}
@@ -24,7 +24,7 @@ use Rattle.gtrbac_model.specs.History.{Legal, IsExecutionModel, AreLegalAfter, I
 use Rattle.gtrbac_model.proofs.Append.{append-nil, requested-append}
 use Rattle.history_laws.specs.Histories.{TellSame}
 use Rattle.history_laws.proofs.Lasting.{steps_after, front_steps}
-use Rattle.audit_laws.specs.NoChange.{ChangesNothing, only_asks, LooksChangeNothing}
+use Rattle.history_laws.specs.Looks.{ChangesNothing, is_look, looks, without_looks, LooksChangeNothing, LooksMayBeLeftOut}
 
 -- a request that is read for no table and queues nothing
 pub record IsSilent (actor : Actor) (request : Request) (reply : Reply) : Type 0 where
@@ -39,7 +39,7 @@ module _ (p : Policy) (birth : ℕ) (m : Model) (h k : List Entry) (same : TellS
       || is_some_item ((same.tables (t - 1) i).signals)
       || is_some_item (drops p.edges p.caps (status p birth m t) t (same.tables (t - 1) i))
 
-  point_same : point_after p birth m h ≡ point_after p birth m k
+  pub point_same : point_after p birth m h ≡ point_after p birth m k
   point_same =
       let tables : table_at p birth m h (now_of birth h) ≡ table_at p birth m k (now_of birth k) = ap (table_at p birth m h) same.nows ∙ same.tables (now_of birth k) in
       λ i. record {
@@ -48,6 +48,10 @@ module _ (p : Policy) (birth : ℕ) (m : Model) (h k : List Entry) (same : TellS
         set = if nat_lt birth (same.nows i) then m (same.nows i) else nothing;
         table = tables i;
       }
+
+  pub model_same : IsExecutionModel p birth h m → IsExecutionModel p birth k m
+  model_same model t after_birth le =
+      subst (λ b. Settled p.triggers b (status p birth m (t - 1)) (m t)) (same.bases t) (model t after_birth (subst (λ n. t ≤ n) (sym same.nows) le))
 
   step_same : (w : Step) → IsLegalStep p birth m h w → IsLegalStep p birth m k w
   step_same (Tick upto to) l = subst (λ f. IsNextStop f (now_of birth k) upto to) stirs_same (subst (λ n. IsNextStop (stirs p birth m h) n upto to) same.nows l)
@@ -106,16 +110,12 @@ module _ (who : Who) (actor : Actor) (request : Request) (reply : Reply) (silent
         heads : (t : ℕ) → requested (g ++ it ∷ h) t ≡ requested (g ++ h) t
         heads t = requested-append g (it ∷ h) t ∙ ap (λ xs. requested g t ++ (xs ++ requested h t)) (silent.raises t) ∙ sym (requested-append g h t)
 
-    legal_model : (h k : List Entry) → TellSame p birth m h k → IsExecutionModel p birth h m → IsExecutionModel p birth k m
-    legal_model h k same model t after_birth le =
-        subst (λ b. Settled p.triggers b (status p birth m (t - 1)) (m t)) (same.bases t) (model t after_birth (subst (λ n. t ≤ n) (sym same.nows) le))
-
     legal_without : (h : List Entry) → Legal p birth (g ++ it ∷ h) m → Legal p birth (g ++ h) m
     legal_without h legal =
         let after_g : AreLegalAfter p birth m g (it ∷ h) = steps_after p birth m [] g (it ∷ h) legal.steps in
         let rest : AreLegalAfter p birth m (g ++ []) h = carried p birth m (λ f. g ++ it ∷ f) (λ f. g ++ f) (λ f e. append_assoc g (it ∷ f) (e ∷ [])) (λ f e. append_assoc g f (e ∷ [])) tell_same [] h after_g.1 in
         record {
-          model = legal_model (g ++ it ∷ h) (g ++ h) (tell_same h) legal.model;
+          model = model_same p birth m (g ++ it ∷ h) (g ++ h) (tell_same h) legal.model;
           steps = joined p birth m [] g h (front_steps p birth m [] g (it ∷ h) legal.steps) (subst (λ k. AreLegalAfter p birth m k h) (append-nil g) rest);
         }
 
@@ -124,7 +124,7 @@ module _ (who : Who) (actor : Actor) (request : Request) (reply : Reply) (silent
         let after_g : AreLegalAfter p birth m (g ++ []) h = subst (λ k. AreLegalAfter p birth m k h) (sym (append-nil g)) (steps_after p birth m [] g h legal.steps) in
         let rest : AreLegalAfter p birth m (g ++ it ∷ []) h = carried p birth m (λ f. g ++ f) (λ f. g ++ it ∷ f) (λ f e. append_assoc g f (e ∷ [])) (λ f e. append_assoc g (it ∷ f) (e ∷ [])) (λ f. turned_round (tell_same f)) [] h after_g in
         record {
-          model = legal_model (g ++ h) (g ++ it ∷ h) (turned_round (tell_same h)) legal.model;
+          model = model_same p birth m (g ++ h) (g ++ it ∷ h) (turned_round (tell_same h)) legal.model;
           steps = joined p birth m [] g (it ∷ h) (front_steps p birth m [] g h legal.steps) (step, rest);
         }
       where
@@ -134,7 +134,7 @@ module _ (who : Who) (actor : Actor) (request : Request) (reply : Reply) (silent
     pub changes_nothing : (h : List Entry) → ChangesNothing p birth m g it h
     changes_nothing h = record { same = tell_same h; without = legal_without h; within = legal_within h }
 
-look_is_silent : (actor : Actor) (request : Request) (reply : Reply) → only_asks request ≡ true → IsSilent actor request reply
+look_is_silent : (actor : Actor) (request : Request) (reply : Reply) → is_look request ≡ true → IsSilent actor request reply
 look_is_silent actor Now reply is = record { leaves = λ now tb. refl; raises = λ t. refl }
 look_is_silent actor (Status cond) reply is = record { leaves = λ now tb. refl; raises = λ t. refl }
 look_is_silent actor (Seen event) reply is = record { leaves = λ now tb. refl; raises = λ t. refl }
@@ -148,3 +148,25 @@ look_is_silent actor (Deactivate n r) reply is = cc
 
 pub looks_change_nothing : LooksChangeNothing
 looks_change_nothing p birth m g h who actor request reply is = changes_nothing who actor request reply (look_is_silent actor request reply is) p birth m g h
+
+-- the looks of a list may be left out behind any entries
+behind : (p : Policy) (birth : ℕ) (m : Model) (g h : List Entry) → TellSame p birth m (g ++ h) (g ++ without_looks h)
+behind p birth m g [] = record { tables = λ t. refl; queues = λ t. refl; bases = λ t. refl; nows = refl }
+behind p birth m g (e ∷ h) = by (looks e.what) refl (behind p birth m g h) (behind p birth m (g ++ e ∷ []) h)
+  where
+    both : (x y z : List Entry) → TellSame p birth m x y → TellSame p birth m y z → TellSame p birth m x z
+    both x y z a b = record { tables = λ t. a.tables t ∙ b.tables t; queues = λ t. a.queues t ∙ b.queues t; bases = λ t. a.bases t ∙ b.bases t; nows = a.nows ∙ b.nows }
+
+    left_out : (who : Who) (w : Step) → looks w ≡ true → TellSame p birth m (g ++ record { who = who; what = w } ∷ h) (g ++ h)
+    left_out who (Tick upto to) is = cc
+    left_out who (Ask actor request reply) is = (looks_change_nothing p birth m g h who actor request reply is).same
+
+    by : (b : Bool) → looks e.what ≡ b → TellSame p birth m (g ++ h) (g ++ without_looks h) → TellSame p birth m ((g ++ e ∷ []) ++ h) ((g ++ e ∷ []) ++ without_looks h)
+        → TellSame p birth m (g ++ e ∷ h) (g ++ (if b then without_looks h else e ∷ without_looks h))
+    by true is here further = both (g ++ e ∷ h) (g ++ h) (g ++ without_looks h) (left_out e.who e.what is) here
+    by false is here further =
+        subst (λ k. TellSame p birth m k (g ++ e ∷ without_looks h)) (append_assoc g (e ∷ []) h)
+        (subst (λ k. TellSame p birth m ((g ++ e ∷ []) ++ h) k) (append_assoc g (e ∷ []) (without_looks h)) further)
+
+pub looks_may_be_left_out : LooksMayBeLeftOut
+looks_may_be_left_out p birth m h = behind p birth m [] h

@@ -1,10 +1,12 @@
--- Entries that change nothing: requests that only ask.
-use Rattle.std.specs.Prelude.{◌≡◌, ℕ, Bool, true, false, List, ◌∷◌, ◌++◌}
+-- Requests that only look: they change nothing.
+use Rattle.std.specs.Prelude.{◌≡◌, ℕ, Bool, true, false, List, [], ◌∷◌, ◌++◌, if◌then◌else◌}
 use Rattle.gt_base.specs.declared.requests.Who.{Who}
 use Rattle.gt_base.specs.declared.requests.Actor.{Actor}
 use Rattle.gt_base.specs.declared.requests.Request.{Request}
 use Rattle.gt_base.specs.declared.requests.Request.TheVariants.{Now, Status, Seen, Active, Check}
 use Rattle.gt_base.specs.declared.requests.Reply.{Reply}
+use Rattle.gt_base.specs.declared.requests.Step.{Step}
+use Rattle.gt_base.specs.declared.requests.Step.TheVariants.{Tick, Ask}
 use Rattle.gt_base.specs.declared.requests.Entry.{Entry}
 use Rattle.gt_base.specs.Machines.{asked}
 use Rattle.gtrbac_model.specs.Policy.{Policy}
@@ -23,17 +25,31 @@ pub record ChangesNothing (p : Policy) (birth : ℕ) (m : Model) (g : List Entry
       → Legal p birth (g ++ e ∷ h) m
 
 -- the instant, a condition, an event of now, an active role, a permission
-abbrev pub only_asks : Request → Bool
-only_asks Now = true
-only_asks (Status cond) = true
-only_asks (Seen event) = true
-only_asks (Active session role) = true
-only_asks (Check session perm) = true
-only_asks _ = false
+abbrev pub is_look : Request → Bool
+is_look Now = true
+is_look (Status cond) = true
+is_look (Seen event) = true
+is_look (Active session role) = true
+is_look (Check session perm) = true
+is_look _ = false
 
--- a request that only asks changes nothing
+abbrev pub looks : Step → Bool
+looks (Tick upto to) = false
+looks (Ask actor request reply) = is_look request
+
+-- the entries that do not only look
+abbrev pub without_looks : List Entry → List Entry
+without_looks [] = []
+without_looks (e ∷ es) = if looks e.what then without_looks es else e ∷ without_looks es
+
+-- a request that only looks changes nothing
 abbrev pub LooksChangeNothing : Type 0
 LooksChangeNothing =
     (p : Policy) (birth : ℕ) (m : Model) (g h : List Entry) (who : Who) (actor : Actor)
-    (request : Request) (reply : Reply) → only_asks request ≡ true
+    (request : Request) (reply : Reply) → is_look request ≡ true
     → ChangesNothing p birth m g (asked who actor request reply) h
+
+-- nor do all of them
+abbrev pub LooksMayBeLeftOut : Type 0
+LooksMayBeLeftOut =
+    (p : Policy) (birth : ℕ) (m : Model) (h : List Entry) → TellSame p birth m h (without_looks h)
