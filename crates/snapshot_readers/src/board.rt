@@ -28,7 +28,7 @@ pub struct Board<'a, R: Wait> {
 }
 
 /// How many steps come before the board publishes them, where viewers need see none of them.
-const MAX_STILL: u32 = 64;
+const MAX_STILL: u32 = 1_024;
 
 impl<'a, R: Wait> Model for Board<'a, R> {
     ghost use Rattle.snapshot_readers.specs.Boards.{BoardView, board_code};
@@ -116,8 +116,8 @@ impl<'a, R: Wait> Board<'a, R> {
         done
     }
 
-    /// Counts a step. Behind one that viewers are to see, each 64th and one that fills the history
-    /// it publishes what there is memory for.
+    /// Counts a step. Behind one that viewers are to see, each 1,024th and one that fills the
+    /// history it publishes what there is memory for.
     pub(crate) fn follow(&mut self, seen: bool)
         ensures { self.new.ledger ≡ self.old.ledger }
     {
