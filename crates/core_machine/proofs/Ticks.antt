@@ -24,7 +24,7 @@ use Rattle.time_engine.specs.Histories.{ClosesLegally}
 use Rattle.time_engine.specs.Plans.{PlanView, IsPlan, IsAfter, IsTimeline}
 use Rattle.time_engine.specs.Traces.{model_of, traced}
 use Rattle.policy_words.specs.Naming.{NamedPolicy}
-use Rattle.core_machine.specs.Books.{GoesOn, HasBases}
+use Rattle.core_machine.specs.Books.{TicksFurther, HasBases}
 use Rattle.core_machine.specs.Coherent.{Abreast, Coherent}
 use Rattle.core_machine.specs.Steps.{moves}
 use Rattle.core_machine.proofs.Closes.{agree, closes, model_is, abreast_after}
@@ -86,7 +86,7 @@ module _ (p : Policy) (birth : ℕ) (h : List Entry) (v : TimelineView) (tb : Ta
             short = omega (arith, room, one_more h e);
           }
 
-      pub goes_tick : (np : NamedPolicy) → np.policy ≡ p → GoesOn (record { named = np; birth = birth; entries = h; trace = v.trace }) (record { named = np; birth = birth; entries = h ++ e ∷ []; trace = w.trace }) who upto plan.at
+      pub goes_tick : (np : NamedPolicy) → np.policy ≡ p → TicksFurther (record { named = np; birth = birth; entries = h; trace = v.trace }) (record { named = np; birth = birth; entries = h ++ e ∷ []; trace = w.trace }) who upto plan.at
       goes_tick np of = record {
         gains = record { named = refl; birth = refl; entries = refl };
         further = traced plan.at plan.base plan.set;

@@ -98,7 +98,7 @@ pub record Gains (old new : BookView) (e : Entry) : Type 0 where
   pub entries : new.entries ≡ old.entries ++ e ∷ []
 
 -- the trace goes on, and the tick went to the next instant that stirs, or to its bound
-pub record GoesOn (old new : BookView) (who : Who) (upto to : ℕ) : Type 0 where
+pub record TicksFurther (old new : BookView) (who : Who) (upto to : ℕ) : Type 0 where
   pub gains : Gains old new (ticked who upto to)
   pub further : List ClosedSet
   pub trace : new.trace ≡ old.trace ++ further
@@ -111,7 +111,7 @@ pub record GoesOn (old new : BookView) (who : Who) (upto to : ℕ) : Type 0 wher
 abbrev pub Ticks : BookView → Who → ℕ → ℕ → BookView → Type 0
 Ticks old who upto to new =
     (upto ≤ now_in old) × (to ≡ now_in old) × (new ≡ old)
-    ⊎ (now_in old < upto) × GoesOn old new who upto to
+    ⊎ (now_in old < upto) × TicksFurther old new who upto to
 
 -- the request stands in the history with its reply, which is the definition's, and no set changes
 pub record Asks (old : BookView) (who : Who) (actor : Actor) (request : Request) (reply : Reply)

@@ -10,7 +10,7 @@ ghost use Rattle.session_table.specs.Plans.{AllStand, IsDropPlan, need_of};
 ghost use Rattle.session_table.specs.Tables.{table_of};
 ghost use Rattle.time_engine.specs.Plans.{Fits, IsPlan, NoneStirs};
 ghost use Rattle.core_machine.specs.Agreeing.{agrees};
-ghost use Rattle.core_machine.specs.Books.{GoesOn};
+ghost use Rattle.core_machine.specs.Books.{TicksFurther};
 ghost use Rattle.core_machine.specs.Coherent.{IsCoherent, Same, view_of};
 ghost use Rattle.core_machine.specs.Steps.{IsClosing, moves};
 
@@ -29,7 +29,7 @@ pub(crate) fn go_on(s: &mut State, who: Who, upto: Instant) -> Result<Instant, M
     requires later { s.old.line.line.now < upto }
     requires room { length s.old.entries.items < MAX_STEPS }
     ensures kept { IsCoherent s.new }
-    ensures ok { IfOk result (λ to. GoesOn (view_of s.old) (view_of s.new) who upto to) }
+    ensures ok { IfOk result (λ to. TicksFurther (view_of s.old) (view_of s.new) who upto to) }
     ensures err { OnErr result (view_of s.new ≡ view_of s.old) }
 {
     let to = stop(s, upto);
@@ -157,7 +157,7 @@ fn close(s: &mut State, who: Who, upto: Instant, plan: Plan, drops: Drops)
     requires signals_room { length drops.signals ≤ s.old.line.spare }
     requires entry_room { 1 ≤ s.old.entries.spare }
     ensures kept { IsCoherent s.new }
-    ensures ok { GoesOn (view_of s.old) (view_of s.new) who upto plan.at }
+    ensures ok { TicksFurther (view_of s.old) (view_of s.new) who upto plan.at }
 {
     s.line.keeps();
     upto.keeps();

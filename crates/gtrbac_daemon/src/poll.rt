@@ -24,10 +24,10 @@ use std::alloc::Global;
 use std::sync::Wait;
 use turn_lock::Passes;
 
-/// What a run has from its caller: the runtime that it waits by, where memory comes from, and the
-/// gate that is passed before each reading of the clock.
+/// What all links of the ports are served by: the runtime that is waited by, where memory comes
+/// from, and the gate that is passed before each reading of the clock.
 #[derive(Drop)]
-struct Means<'a, R, G> {
+struct PollServer<'a, R, G> {
     rt: &'a R,
     alloc: Global,
     gate: &'a G,
@@ -35,7 +35,7 @@ struct Means<'a, R, G> {
 
 /// Lets one pass serve the ports at a desk over a ledger, and closes the desk.
 fn poll_and_close<R: Wait, P: Ports, C: Clock, G: Gate>(
-    means: &Means<R, G>,
+    poller: &PollServer<R, G>,
     policy: &Policy,
     desk: Desk<Ledger>,
     mut passes: Passes<Ledger>,
@@ -56,12 +56,12 @@ fn poll_and_close<R: Wait, P: Ports, C: Clock, G: Gate>(
         unreachable!();
     };
     let server = Server {
-        rt: means.rt,
-        alloc: means.alloc,
+        rt: poller.rt,
+        alloc: poller.alloc,
         desk: &desk,
         policy,
         conn: 0,
-        gate: means.gate,
+        gate: poller.gate,
     };
     let end = run(&server, &mut pass, ports, clock, ends);
     passes.put(pass);
@@ -85,7 +85,7 @@ fn status_of_run(end: RunEnd) -> u8
 
 /// Serves a safe policy from the birth that the clock tells, and writes the log.
 fn poll_serve<R: Wait, B: Clock, P: Ports, C: Clock, G: Gate, K: Sink>(
-    means: &Means<R, G>,
+    poller: &PollServer<R, G>,
     safe: Safe,
     birth: &mut B,
     ports: &mut P,
@@ -101,12 +101,12 @@ fn poll_serve<R: Wait, B: Clock, P: Ports, C: Clock, G: Gate, K: Sink>(
         (polling (C.readings clock.new) (P.harbour ports.new) ends.new.items) (K.output out.new)) }
 {
     let minute = birth.now();
-    let Ok(mut page) = Page::new(means.alloc) else {
+    let Ok(mut page) = Page::new(poller.alloc) else {
         return 8;
     };
-    match open_desk(means.alloc, safe, minute, 1) {
+    match open_desk(poller.alloc, safe, minute, 1) {
         Ok((policy, desk, passes)) => {
-            let (closed, end) = poll_and_close(means, &policy, desk, passes, ports, clock, ends);
+            let (closed, end) = poll_and_close(poller, &policy, desk, passes, ports, clock, ends);
             write_up(&mut page, &closed, status_of_run(end), out)
         }
         Err(_) => 8,
@@ -149,8 +149,8 @@ pub fn daemon_poll<R: Wait, S: Shelf, B: Clock, P: Ports, C: Clock, G: Gate, K: 
 {
     match find_safe(alloc, word_behind("poll", words), shelf, out) {
         Ok(safe) => {
-            let means = Means { rt, alloc, gate };
-            poll_serve(&means, safe, birth, ports, clock, ends, out)
+            let poller = PollServer { rt, alloc, gate };
+            poll_serve(&poller, safe, birth, ports, clock, ends, out)
         }
         Err(status) => status,
     }

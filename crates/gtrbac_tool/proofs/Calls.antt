@@ -14,7 +14,7 @@ use Rattle.gtrbac_tool.specs.EndTexts.{usage}
 use Rattle.gtrbac_tool.specs.Script.{IsRunStatus}
 use Rattle.gtrbac_tool.specs.Summary.{Gen, IsGen, GenEnds}
 use Rattle.gtrbac_tool.specs.Commands.{Command, named_by, command_of, plays_script, IsPlainRun}
-use Rattle.gtrbac_tool.specs.Writing.{IsCutShort, Tells}
+use Rattle.gtrbac_tool.specs.Writing.{IsCutShort, PrintsEnd}
 use Rattle.gtrbac_tool.specs.Reading.{Reads, Works}
 use Rattle.gtrbac_tool.specs.Ends.{TextEnds, FoundEnds, IsNoCommand, generated, unspoken, spoken}
 use Rattle.gtrbac_tool.specs.Scenes.{Scene, scene}
@@ -59,7 +59,7 @@ module _ {S I K : Type 0} (stock : S → Stock) (intake : I → Intake) (output 
         other (inr q) four = cc (q.0, four)
 
     module _ (g : Gen) (is : IsGen words g) where
-      gen_answers : Tells ⊥ (GenEnds g) status (output out) (output out') → Answers words status A B
+      gen_answers : PrintsEnd ⊥ (GenEnds g) status (output out) (output out') → Answers words status A B
       gen_answers (inl wants) = inl ((λ none. none.1 g is), wants)
       gen_answers (inr h) = inr (h.0, generated g is h.1, inr (refl, refl), by h.2)
         where
@@ -68,14 +68,14 @@ module _ {S I K : Type 0} (stock : S → Stock) (intake : I → Intake) (output 
           by (inl p) = inl p
           by (inr p) = absurd p.0
 
-      no_four : Tells ⊥ (GenEnds g) status (output out) (output out') → status ≡ 4 → ⊥
+      no_four : PrintsEnd ⊥ (GenEnds g) status (output out) (output out') → status ≡ 4 → ⊥
       no_four t four =
           let e = tells_at status (output out) (output out') ⊥ (GenEnds g) (λ five. cc (five, four)) (λ eight. cc (eight, four)) t in
           let zero : e.0.status ≡ 0 = gen_succeeds g is.low is.high e.0 e.1 in
           let same : e.0.status ≡ 4 = e.2 ∙ four in
           cc (zero, same)
 
-      pub gen_runs : Tells ⊥ (GenEnds g) status (output out) (output out') → RunsTool words status A B
+      pub gen_runs : PrintsEnd ⊥ (GenEnds g) status (output out) (output out') → RunsTool words status A B
       gen_runs t = runs words A B status (gen_answers t) (only_written (gen_no_command words g is) (no_four t))
 
   -- a call of a command over a policy
@@ -102,7 +102,7 @@ module _ {S I K : Type 0} (stock : S → Stock) (intake : I → Intake) (output 
     Over end = FoundEnds Hard Lost c C.texts C.script end × ((end.status ≡ 4) ⊎ SameFaults) × (end.status ≡ 4 → Counted) × (Playing c → IsRunStatus end.status → IsAtEnd D.script)
 
     abbrev Done : Type 0
-    Done = Tells (IsPlainRun c) Over status (output out) (output out')
+    Done = PrintsEnd (IsPlainRun c) Over status (output out) (output out')
 
     plainly : (end : EndView) → IsPrinted status end C.written D.written C.written_faults D.written_faults ⊎ (IsPlainRun c × IsCutShort status end C.written D.written C.written_faults D.written_faults)
         → IsPrinted status end C.written D.written C.written_faults D.written_faults ⊎ (IsSomeAnd (command_of words) IsPlainRun × IsCutShort status end C.written D.written C.written_faults D.written_faults)

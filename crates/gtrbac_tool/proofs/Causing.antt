@@ -8,7 +8,7 @@ use Rattle.policy_commands.specs.Ends.{EndView}
 use Rattle.request_text.specs.declared.lines.Line.{Line}
 use Rattle.request_text.specs.declared.lines.Line.TheVariants.{Silent, At, Be, Ask}
 use Rattle.request_text.specs.declared.lines.LineFault.{LineFault}
-use Rattle.gtrbac_tool.specs.Script.{Going, ScriptStart, never, born, failed, begun, start_of, EndsFrom, Stops, Run, said, IsRunStatus}
+use Rattle.gtrbac_tool.specs.Script.{RunState, ScriptStart, never, born, failed, begun, start_of, EndsFrom, Stops, Run, said, IsRunStatus}
 use Rattle.gtrbac_tool.specs.Commands.{Command, command_of}
 use Rattle.gtrbac_tool.specs.Summary.{Gen, IsGen}
 
@@ -17,7 +17,7 @@ use Rattle.gtrbac_tool.specs.Summary.{Gen, IsGen}
 pub status_of : (a b : EndView) → a ≡ b → a.status ≡ b.status
 status_of a b e = ap (λ (t : EndView). t.status) e
 
-stop_status : (np : NamedPolicy) (birth : ℕ) (line : Result Line LineFault) (n : ℕ) (s : Going) (h : List Entry) (end : EndView) → Stops np birth line n s h end → IsRunStatus end.status
+stop_status : (np : NamedPolicy) (birth : ℕ) (line : Result Line LineFault) (n : ℕ) (s : RunState) (h : List Entry) (end : EndView) → Stops np birth line n s h end → IsRunStatus end.status
 stop_status np birth (Ok Silent) n s h end is = absurd is
 stop_status np birth (Ok (Be actor)) n s h end is = absurd is
 stop_status np birth (Ok (At minute)) n s h end is = inr (inr (status_of end _ is.1))

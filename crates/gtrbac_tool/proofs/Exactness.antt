@@ -11,8 +11,8 @@ use Rattle.policy_words.specs.PolicyRead.{PolicyFault, policy_read}
 use Rattle.policy_commands.specs.Ends.{EndView, ending}
 use Rattle.policy_commands.specs.Finding.{IsLongPolicy, IsStoredText, MissesText}
 use Rattle.policy_commands.specs.Printing.{IsPrinted}
-use Rattle.policy_commands.specs.Policies.{read_or_told, policy_in, safe_or_told, judged, judged_or_told, safe_in, HasTextFault, IsUnsafeText}
-use Rattle.policy_commands.specs.Commands.{laid_or_told, fmt_end, safe_or_end, check_end}
+use Rattle.policy_commands.specs.Policies.{policy_or_end, policy_in, safe_or_cycle, judged, judged_or_end, safe_in, HasTextFault, IsUnsafeText}
+use Rattle.policy_commands.specs.Commands.{laid_or_end, fmt_end, safe_or_end, check_end}
 use Rattle.policy_commands.specs.Meanings.{IsSafeText}
 use Rattle.policy_commands.proofs.Answered.{safe_means, unsafe_means, fault_means, fmt_fault_means}
 use Rattle.policy_commands.specs.declared.finding.TheConstants.{MAX_POLICY}
@@ -42,13 +42,13 @@ EndsWith s (Err t) = t.status ≡ s
 -- a text: it has a fault, or its policy is not safe, or it is
 
 module _ (text : List ℕ) where
-  safe_is : (r : Result NamedPolicy PolicyFault) → policy_read text ≡ r → safe_in text ≡ judged_or_told (read_or_told r)
+  safe_is : (r : Result NamedPolicy PolicyFault) → policy_read text ≡ r → safe_in text ≡ judged_or_end (policy_or_end r)
   unfolding safe_in policy_in
-  safe_is r e = ap (λ x. judged_or_told (read_or_told x)) e
+  safe_is r e = ap (λ x. judged_or_end (policy_or_end x)) e
 
-  judged_is : (np : NamedPolicy) (c : Option (List ℕ)) → policy_read text ≡ Ok np → the_cycle np.policy.triggers ≡ c → safe_in text ≡ safe_or_told np c
+  judged_is : (np : NamedPolicy) (c : Option (List ℕ)) → policy_read text ≡ Ok np → the_cycle np.policy.triggers ≡ c → safe_in text ≡ safe_or_cycle np c
   unfolding judged
-  judged_is np c read e = safe_is (Ok np) read ∙ ap (safe_or_told np) e
+  judged_is np c read e = safe_is (Ok np) read ∙ ap (safe_or_cycle np) e
 
   pub safe_found : (np : NamedPolicy) → IsSafeOf text np → safe_in text ≡ Ok np
   safe_found np s = judged_is np None s.is ((tells np.policy.triggers).0 s.safe)
@@ -65,7 +65,7 @@ module _ (text : List ℕ) where
 
   laid_found : (np : NamedPolicy) → policy_read text ≡ Ok np → (fmt_end text).status ≡ 0
   unfolding fmt_end policy_in
-  laid_found np e = ap (λ x. (laid_or_told (read_or_told x)).status) e
+  laid_found np e = ap (λ x. (laid_or_end (policy_or_end x)).status) e
 
   sort_of : (r : Result NamedPolicy PolicyFault) → policy_read text ≡ r → HasTextFault text ⊎ IsUnsafeText text ⊎ ((np : NamedPolicy) × IsSafeOf text np)
   sort_of (Err f) e = inl (record { fault = f; is = e })

@@ -27,7 +27,7 @@ use Rattle.request_text.specs.declared.lines.LineFault.{LineFault}
 use Rattle.request_text.proofs.Named.{read_named}
 use Rattle.why_check.proofs.Priorities.{priorities_are_low}
 use Rattle.gtrbac_tool.specs.Reasons.{IsExplained, TellingsAreExplained}
-use Rattle.gtrbac_tool.specs.Script.{Going, AreTicks, Moves, Plays, Stops, StoppedAt, RunOver, said, scripts_who, at_birth}
+use Rattle.gtrbac_tool.specs.Script.{RunState, AreTicks, Moves, MovesThrough, Stops, StoppedAt, RunOver, said, scripts_who, at_birth}
 use Rattle.gtrbac_model.proofs.Elements.{both_true}
 use Rattle.gtrbac_tool.specs.Standing.{at_prio}
 use Rattle.gtrbac_tool.proofs.Reasons.{greatest_holds, reasons_exist}
@@ -54,23 +54,23 @@ nothing_told rules base before e = by (greatest_below (won_at nothing e) 101) (g
 
 module _ (np : NamedPolicy) (good : IsWellFormed np) (birth : ℕ) where
   -- who acts and what was done are of the policy
-  record IsNamedGoing (s : Going) : Type 0 where
+  record IsNamedState (s : RunState) : Type 0 where
     pub actor : IsNamedWish np.policy (ask s.actor requests.Now)
     pub history : AreNamed np.policy s.history
 
-  line_on : (line : List ℕ) (r : Result Line LineFault) → said np line ≡ r → (s t : Going) → Moves np birth r s t → IsNamedGoing s → IsNamedGoing t
-  line_on line (Ok Silent) is s t moves named = subst IsNamedGoing (sym moves) named
+  line_on : (line : List ℕ) (r : Result Line LineFault) → said np line ≡ r → (s t : RunState) → Moves np birth r s t → IsNamedState s → IsNamedState t
+  line_on line (Ok Silent) is s t moves named = subst IsNamedState (sym moves) named
   line_on line (Ok (Be actor)) is s t moves named =
-      subst IsNamedGoing (sym moves) (record { actor = read_named np good Operator true line (Be actor) tt is; history = named.history })
+      subst IsNamedState (sym moves) (record { actor = read_named np good Operator true line (Be actor) tt is; history = named.history })
   line_on line (Ok (At minute)) is s t moves named =
-      subst IsNamedGoing (sym moves.2)
+      subst IsNamedState (sym moves.2)
       (record {
         actor = named.actor;
         history = subst (AreNamed np.policy) (sym moves.1.added)
             (both_named np.policy s.history moves.1.ticks named.history (ticks_named np.policy minute moves.1.ticks (read_named np good Operator true line (At minute) tt is) moves.1.are_ticks));
       })
   line_on line (Ok (Ask request)) is s t moves named =
-      subst IsNamedGoing (sym moves.2)
+      subst IsNamedState (sym moves.2)
       (record {
         actor = named.actor;
         history = both_named np.policy s.history (asked scripts_who s.actor request moves.0 ∷ []) named.history
@@ -78,11 +78,11 @@ module _ (np : NamedPolicy) (good : IsWellFormed np) (birth : ℕ) where
       })
   line_on line (Err fault) is s t moves named = absurd moves
 
-  lines_on : (lines : List (List ℕ)) (s t : Going) → Plays np birth lines s t → IsNamedGoing s → IsNamedGoing t
-  lines_on [] s t plays named = subst IsNamedGoing (sym plays) named
+  lines_on : (lines : List (List ℕ)) (s t : RunState) → MovesThrough np birth lines s t → IsNamedState s → IsNamedState t
+  lines_on [] s t plays named = subst IsNamedState (sym plays) named
   lines_on (line ∷ lines) s t plays named = lines_on lines plays.0 t plays.2 (line_on line (said np line) refl s plays.0 plays.1 named)
 
-  from_birth : (front : List (List ℕ)) (t : Going) → Plays np birth front (at_birth np birth) t → IsNamedGoing t
+  from_birth : (front : List (List ℕ)) (t : RunState) → MovesThrough np birth front (at_birth np birth) t → IsNamedState t
   from_birth front t plays = lines_on front (at_birth np birth) t plays (record { actor = (tt, tt); history = tt })
 
   -- the entries of a run are named

@@ -13,7 +13,7 @@ use Rattle.policy_commands.specs.Ends.{EndView}
 use Rattle.request_text.specs.declared.lines.Line.{Line}
 use Rattle.request_text.specs.declared.lines.Line.TheVariants.{Silent, At, Be, Ask}
 use Rattle.request_text.specs.declared.lines.LineFault.{LineFault}
-use Rattle.gtrbac_tool.specs.Script.{Going, AreTicks, Moves, Plays, Stops, PlayedOut, StoppedAt, said, scripts_who, at_birth}
+use Rattle.gtrbac_tool.specs.Script.{RunState, AreTicks, Moves, MovesThrough, Stops, PlayedOut, StoppedAt, said, scripts_who, at_birth}
 use Rattle.gtrbac_tool.specs.Meanings.{AreTo, LineAsks, LinesAsk, IsPlayOf, RunsArePlays}
 use Rattle.gtrbac_tool.proofs.OneHistory.{move_of, made}
 
@@ -27,33 +27,33 @@ map_both (e ∷ g) h = ap (λ (qs : List Move). move_of e ∷ qs) (map_both g h)
 
 module _ (np : NamedPolicy) (birth : ℕ) where
   -- what lines ask for, of the entries that they add
-  record Asked (lines : List (List ℕ)) (s : Going) (history : List Entry) (last : Actor) : Type 0 where
+  record Asked (lines : List (List ℕ)) (s : RunState) (history : List Entry) (last : Actor) : Type 0 where
     pub more : List Entry
     pub all : history ≡ s.history ++ more
     pub asks : LinesAsk np s.actor lines (map move_of more) last
 
-  record AskedNext (r : Result Line LineFault) (s t : Going) : Type 0 where
+  record AskedNext (r : Result Line LineFault) (s t : RunState) : Type 0 where
     pub more : List Entry
     pub all : t.history ≡ s.history ++ more
     pub asks : LineAsks r s.actor (map move_of more) t.actor
 
-  line_asks : (r : Result Line LineFault) (s t : Going) → Moves np birth r s t → AskedNext r s t
-  line_asks (Ok Silent) s t moves = record { more = []; all = ap (λ (g : Going). g.history) moves ∙ sym (append-nil s.history); asks = (refl, ap (λ (g : Going). g.actor) moves) }
-  line_asks (Ok (Be actor)) s t moves = record { more = []; all = ap (λ (g : Going). g.history) moves ∙ sym (append-nil s.history); asks = (refl, ap (λ (g : Going). g.actor) moves) }
+  line_asks : (r : Result Line LineFault) (s t : RunState) → Moves np birth r s t → AskedNext r s t
+  line_asks (Ok Silent) s t moves = record { more = []; all = ap (λ (g : RunState). g.history) moves ∙ sym (append-nil s.history); asks = (refl, ap (λ (g : RunState). g.actor) moves) }
+  line_asks (Ok (Be actor)) s t moves = record { more = []; all = ap (λ (g : RunState). g.history) moves ∙ sym (append-nil s.history); asks = (refl, ap (λ (g : RunState). g.actor) moves) }
   line_asks (Ok (At minute)) s t moves = record {
     more = moves.1.ticks;
-    all = ap (λ (g : Going). g.history) moves.2 ∙ moves.1.added;
-    asks = (are_to minute moves.1.ticks moves.1.are_ticks, ap (λ (g : Going). g.actor) moves.2);
+    all = ap (λ (g : RunState). g.history) moves.2 ∙ moves.1.added;
+    asks = (are_to minute moves.1.ticks moves.1.are_ticks, ap (λ (g : RunState). g.actor) moves.2);
   }
   line_asks (Ok (Ask request)) s t moves = record {
     more = asked scripts_who s.actor request moves.0 ∷ [];
-    all = ap (λ (g : Going). g.history) moves.2;
-    asks = (refl, ap (λ (g : Going). g.actor) moves.2);
+    all = ap (λ (g : RunState). g.history) moves.2;
+    asks = (refl, ap (λ (g : RunState). g.actor) moves.2);
   }
   line_asks (Err fault) s t moves = absurd moves
 
-  lines_ask : (lines : List (List ℕ)) (s t : Going) → Plays np birth lines s t → Asked lines s t.history t.actor
-  lines_ask [] s t plays = record { more = []; all = ap (λ (g : Going). g.history) plays ∙ sym (append-nil s.history); asks = (refl, ap (λ (g : Going). g.actor) plays) }
+  lines_ask : (lines : List (List ℕ)) (s t : RunState) → MovesThrough np birth lines s t → Asked lines s t.history t.actor
+  lines_ask [] s t plays = record { more = []; all = ap (λ (g : RunState). g.history) plays ∙ sym (append-nil s.history); asks = (refl, ap (λ (g : RunState). g.actor) plays) }
   lines_ask (line ∷ lines) s t plays =
       let first = line_asks (said np line) s plays.0 plays.1 in
       let later = lines_ask lines plays.0 t plays.2 in
@@ -73,7 +73,7 @@ module _ (np : NamedPolicy) (birth : ℕ) where
   play_of lines done rest h m last legal parts asks =
       record { done = done; rest = rest; parts = parts; moves = map move_of h; last = last; asked = asks; model = m; play = record { legal = legal; made = made np.policy birth m [] h legal.steps } }
 
-  from_birth : (front : List (List ℕ)) (t : Going) → Plays np birth front (at_birth np birth) t → LinesAsk np Operator front (map move_of t.history) t.actor
+  from_birth : (front : List (List ℕ)) (t : RunState) → MovesThrough np birth front (at_birth np birth) t → LinesAsk np Operator front (map move_of t.history) t.actor
   from_birth front t plays = let to = lines_ask front (at_birth np birth) t plays in subst (λ (h : List Entry). LinesAsk np Operator front (map move_of h) t.actor) (sym to.all) to.asks
 
   whole_play : (lines : List (List ℕ)) (h : List Entry) (end : EndView) (m : Model) → Legal np.policy birth h m → PlayedOut np birth lines h end → IsPlayOf np birth lines h

@@ -23,21 +23,21 @@ use Rattle.gtrbac_tool.specs.declared.script.Played.TheVariants.{On, Full, Bad}
 use Rattle.gtrbac_tool.specs.declared.script.Ran.{Ran}
 use Rattle.gtrbac_tool.specs.declared.script.Ran.TheVariants.{Unborn, Born}
 use Rattle.gtrbac_tool.specs.EndTexts.{behind, script_fault, steps_full}
-use Rattle.gtrbac_tool.specs.Script.{Going, Moves, Plays, Stops, Run, ScriptStart, never, born, failed, EndsFrom, RunOver, said, scripts_who, at_birth}
-use Rattle.gtrbac_tool.specs.Going.{going_of, PlaysAs}
-use Rattle.gtrbac_tool.specs.Writing.{Tells, Hands}
+use Rattle.gtrbac_tool.specs.Script.{RunState, Moves, MovesThrough, Stops, Run, ScriptStart, never, born, failed, EndsFrom, RunOver, said, scripts_who, at_birth}
+use Rattle.gtrbac_tool.specs.RunStates.{run_state_of, PlaysAs}
+use Rattle.gtrbac_tool.specs.Writing.{PrintsEnd, Hands}
 use Rattle.gtrbac_tool.specs.Started.{RanFrom, Leads}
 use Rattle.gtrbac_tool.proofs.Steps.{legal_from, stop_out, last_out, outcome}
 use Rattle.gtrbac_tool.proofs.SomeEnd.{EndsOn, ends_on}
 use Rattle.gtrbac_tool.proofs.Writing.{prefix_of, part_before, part_behind, printed_behind, hands_none, wants}
 
 -- where a run stands, with this text before it
-abbrev pub after : List ℕ → Going → Going
+abbrev pub after : List ℕ → RunState → RunState
 after sent s = record { actor = s.actor; history = s.history; text = sent ++ s.text }
 
 -- a line moves and stops a run the same where a text stands before its replies
 module _ (np : NamedPolicy) (birth : ℕ) (sent : List ℕ) where
-  moves_after : (line : Result Line LineFault) (s t : Going) → Moves np birth line s t → Moves np birth line (after sent s) (after sent t)
+  moves_after : (line : Result Line LineFault) (s t : RunState) → Moves np birth line s t → Moves np birth line (after sent s) (after sent t)
   moves_after (Ok Silent) s t m = ap (after sent) m
   moves_after (Ok (Be actor)) s t m = ap (after sent) m ∙ (λ i. record { actor = actor; history = s.history; text = sym (append_assoc sent s.text (codes "ok\n")) i })
   moves_after (Ok (At minute)) s t m = (m.0, m.1, ap (after sent) m.2)
@@ -54,21 +54,21 @@ module _ (np : NamedPolicy) (birth : ℕ) (sent : List ℕ) where
   again : (front : List ℕ) (t u : EndView) → behind front t ≡ behind front u → behind (sent ++ front) t ≡ behind (sent ++ front) u
   again front t u e = sym (both_before front t) ∙ ap (behind sent) e ∙ both_before front u
 
-  stops_after : (line : Result Line LineFault) (n : ℕ) (s : Going) (h : List Entry) (t : EndView) → Stops np birth line n s h (behind s.text t) → Stops np birth line n (after sent s) h (behind (sent ++ s.text) t)
+  stops_after : (line : Result Line LineFault) (n : ℕ) (s : RunState) (h : List Entry) (t : EndView) → Stops np birth line n s h (behind s.text t) → Stops np birth line n (after sent s) h (behind (sent ++ s.text) t)
   stops_after (Ok Silent) n s h t is = is
   stops_after (Ok (Be actor)) n s h t is = is
   stops_after (Ok (At minute)) n s h t is = (is.0, again s.text t (steps_full n) is.1)
   stops_after (Ok (Ask request)) n s h t is = (is.0, is.1, again s.text t (steps_full n) is.2)
   stops_after (Err fault) n s h t is = (is.0, again s.text t (script_fault n (fault_word fault)) is.1)
 
-  pub plays_after : (line : Result Line LineFault) (how : Played) (s t : Going) → PlaysAs np birth line how s t → PlaysAs np birth line how (after sent s) (after sent t)
+  pub plays_after : (line : Result Line LineFault) (how : Played) (s t : RunState) → PlaysAs np birth line how s t → PlaysAs np birth line how (after sent s) (after sent t)
   plays_after line On s t h = moves_after line s t h
   plays_after line Full s t h = (ap (λ (x : List ℕ). sent ++ x) h.0, λ n. stops_after line n s t.history (steps_full n) (h.1 n))
   plays_after line (Bad f) s t h = (ap (λ (x : List ℕ). sent ++ x) h.0, λ n. stops_after line n s t.history (script_fault n (fault_word f)) (h.1 n))
 
 -- a run that ends on the way
 pub breaks : (np : NamedPolicy) (start : ScriptStart) (pieces : Bool) (status : ℕ) (a b : Output)
-    → Tells ⊤ (EndsFrom np start) status a b → (pieces ≡ false → WantsMemory status a.written b.written a.faults b.faults) → Leads np start pieces (Err status) a b
+    → PrintsEnd ⊤ (EndsFrom np start) status a b → (pieces ≡ false → WantsMemory status a.written b.written a.faults b.faults) → Leads np start pieces (Err status) a b
 breaks np start true status a b tells wants = tells
 breaks np start false status a b tells wants = wants refl
 
@@ -79,7 +79,7 @@ starved_first np start pieces status a eight =
 
 -- where the lines of a front were played, with a text of which a part was written and the rest waits
 module _ (b0 b : BookView) (root : SameRoot b0 b) (legal : IsLegalBook b) (before : ℕ) (lines front later : List (List ℕ)) (parts : lines ≡ front ++ later) (actor : Actor) (sent page : List ℕ)
-    (plays : Plays b0.named b0.birth front (at_birth b0.named b0.birth) (going_of b actor (sent ++ page))) (pieces : Bool) (a w : Output) (hands : Hands pieces a w sent) where
+    (plays : MovesThrough b0.named b0.birth front (at_birth b0.named b0.birth) (run_state_of b actor (sent ++ page))) (pieces : Bool) (a w : Output) (hands : Hands pieces a w sent) where
   abbrev Comes : Result Ran ℕ → Output → Type 0
   Comes result c = Leads b0.named (born b0.birth (before + 1) lines) pieces result a c
 
@@ -87,10 +87,10 @@ module _ (b0 b : BookView) (root : SameRoot b0 b) (legal : IsLegalBook b) (befor
   Start = born b0.birth (before + 1) lines
 
   module _ (safe : IsSafe b0.named.policy.triggers) (short : length b.entries ≤ MAX_STEPS) where
-    on : EndsOn b0.named b0.birth (before + 1) lines (going_of b actor (sent ++ page))
+    on : EndsOn b0.named b0.birth (before + 1) lines (run_state_of b actor (sent ++ page))
     on =
-        subst (λ (ls : List (List ℕ)). EndsOn b0.named b0.birth (before + 1) ls (going_of b actor (sent ++ page))) (sym parts)
-        (ends_on b0.named b0.birth (before + 1) safe later front (going_of b actor (sent ++ page)) (model_in b) (plays, legal_from b0 b root legal, short))
+        subst (λ (ls : List (List ℕ)). EndsOn b0.named b0.birth (before + 1) ls (run_state_of b actor (sent ++ page))) (sym parts)
+        (ends_on b0.named b0.birth (before + 1) safe later front (run_state_of b actor (sent ++ page)) (model_in b) (plays, legal_from b0 b root legal, short))
 
     -- there was no memory for more
     pub starves : Comes (Err 8) w
@@ -124,9 +124,9 @@ module _ (b0 b : BookView) (root : SameRoot b0 b) (legal : IsLegalBook b) (befor
 
 -- a line that ends the run
 pub stops_there : (b0 old b : BookView) (root : SameRoot b0 b) (legal : IsLegalBook b) (before number : ℕ) (lines front later rest : List (List ℕ)) (line : List ℕ) (parts : lines ≡ front ++ later) (steps : later ≡ line ∷ rest)
-    (actor : Actor) (sent page : List ℕ) (plays : Plays b0.named b0.birth front (at_birth b0.named b0.birth) (going_of old actor (sent ++ page))) (at : number ≡ before + length front)
+    (actor : Actor) (sent page : List ℕ) (plays : MovesThrough b0.named b0.birth front (at_birth b0.named b0.birth) (run_state_of old actor (sent ++ page))) (at : number ≡ before + length front)
     (pieces : Bool) (a w : Output) (hands : Hands pieces a w sent) (next : List ℕ) (kind : ℕ → EndView)
-    → (sent ++ next ≡ sent ++ page) × ((n : ℕ) → Stops b0.named b0.birth (said b0.named line) n (going_of old actor (sent ++ page)) b.entries (behind (sent ++ page) (kind n)))
+    → (sent ++ next ≡ sent ++ page) × ((n : ℕ) → Stops b0.named b0.birth (said b0.named line) n (run_state_of old actor (sent ++ page)) b.entries (behind (sent ++ page) (kind n)))
     → (result : Result Ran ℕ) → MatchResult result (λ ran. (end : End) × (ran ≡ Born b end) × (seen_end end ≡ behind next (kind (number + 1)))) (λ s. s ≡ 8)
     → Leads b0.named (born b0.birth (before + 1) lines) pieces result a w
 stops_there b0 old b root legal before number lines front later rest line parts steps actor sent page plays at pieces a w hands next kind did result is = by result is
@@ -135,7 +135,7 @@ stops_there b0 old b root legal before number lines front later rest line parts 
     end = behind (sent ++ next) (kind (number + 1))
 
     run : Run b0.named b0.birth (before + 1) lines end
-    run = (b.entries, stop_out b0 b (going_of old actor (sent ++ page)) (sent ++ next) before number lines later rest front line kind end root legal parts steps plays at did.0 did.1 refl)
+    run = (b.entries, stop_out b0 b (run_state_of old actor (sent ++ page)) (sent ++ next) before number lines later rest front line kind end root legal parts steps plays at did.0 did.1 refl)
 
     all : behind sent (behind next (kind (number + 1))) ≡ end
     all = λ i. record { status = (kind (number + 1)).status; text = sym (append_assoc sent next (kind (number + 1)).text) i }
@@ -184,7 +184,7 @@ ran_ends np (failed t) sent (Born book end) h = absurd h
 
 -- the rest of the replies was printed
 pub replied : (np : NamedPolicy) (start : ScriptStart) (status : ℕ) (a b c : Output) (ran : Ran) (end : End) → end_of ran ≡ end → Leads np start true (Ok ran) a b
-    → IsPrinted status (seen_end end) b.written c.written b.faults c.faults → Tells ⊤ (EndsFrom np start) status a c
+    → IsPrinted status (seen_end end) b.written c.written b.faults c.faults → PrintsEnd ⊤ (EndsFrom np start) status a c
 replied np start status a b c ran end is leads printed =
     inr (
       behind leads.0 (seen_end end),

@@ -15,7 +15,7 @@ use Rattle.gtrbac_tool.specs.declared.questions.Question.{Question}
 use Rattle.gtrbac_tool.specs.declared.ahead.Inquiry.{Inquiry}
 use Rattle.gtrbac_tool.specs.Late.{asks_of, asked_of}
 use Rattle.gtrbac_tool.specs.Script.{IsRunStatus}
-use Rattle.gtrbac_tool.specs.Writing.{Prints, Tells}
+use Rattle.gtrbac_tool.specs.Writing.{Prints, PrintsEnd}
 use Rattle.gtrbac_tool.specs.Reading.{Reads, Works}
 use Rattle.gtrbac_tool.proofs.Writing.{shown, tells_so}
 
@@ -52,7 +52,7 @@ module _ {I : Type 0} (intake : I → Intake) (P Plays A : Type 0) (Ends : Type 
 
   -- a call that leaves its input alone
   module _ (input : I) (status : ℕ) (a b : Output) where
-    alone : Tells P (Reads Plays Ends (intake input) (intake input)) status a b → Works intake P Plays A Ends input input status a b
+    alone : PrintsEnd P (Reads Plays Ends (intake input) (intake input)) status a b → Works intake P Plays A Ends input input status a b
     alone tells = record { tells = tells; once = omega arith; short = ([], omega arith, Consumes-nil (intake input).left); untouched = inl refl }
 
     abbrev Here : EndView → Type 0

@@ -19,24 +19,24 @@ use Rattle.request_text.specs.declared.lines.Line.TheVariants.{Silent, At, Be, A
 use Rattle.request_text.specs.declared.lines.LineFault.{LineFault}
 use Rattle.request_text.specs.Replies.{reply_line, fault_word}
 use Rattle.gtrbac_tool.specs.EndTexts.{behind, script_fault, steps_full}
-use Rattle.gtrbac_tool.specs.Script.{Going, Moves, Plays, Stops, Run, ScriptStart, never, born, failed, start_of, EndsFrom, EndsIf, said, scripts_who, at_birth}
+use Rattle.gtrbac_tool.specs.Script.{RunState, Moves, MovesThrough, Stops, Run, ScriptStart, never, born, failed, start_of, EndsFrom, EndsIf, said, scripts_who, at_birth}
 use Rattle.gtrbac_tool.specs.Meanings.{SomeEnd}
 use Rattle.gtrbac_tool.proofs.Continuing.{TicksOn, ticks_go_on, asks_on}
 use Rattle.gtrbac_tool.proofs.Steps.{plays_more}
 use Rattle.gtrbac_tool.specs.declared.top.TheConstants.{MAX_SCRIPT}
 
 -- how a run goes on from where it stands
-pub record EndsOn (np : NamedPolicy) (birth n : ℕ) (lines : List (List ℕ)) (s : Going) : Type 0 where
+pub record EndsOn (np : NamedPolicy) (birth n : ℕ) (lines : List (List ℕ)) (s : RunState) : Type 0 where
   pub end : EndView
   pub run : Run np birth n lines end
   pub more : List ℕ
   pub text : end.text ≡ s.text ++ more
 
 module _ (np : NamedPolicy) (birth n : ℕ) (safe : IsSafe np.policy.triggers) where
-  abbrev Stands : List (List ℕ) → Going → Model → Type 0
-  Stands front s m = Plays np birth front (at_birth np birth) s × Legal np.policy birth s.history m × (length s.history ≤ MAX_STEPS)
+  abbrev Stands : List (List ℕ) → RunState → Model → Type 0
+  Stands front s m = MovesThrough np birth front (at_birth np birth) s × Legal np.policy birth s.history m × (length s.history ≤ MAX_STEPS)
 
-  all_played : (front : List (List ℕ)) (s : Going) (m : Model) → Stands front s m → EndsOn np birth n (front ++ []) s
+  all_played : (front : List (List ℕ)) (s : RunState) (m : Model) → Stands front s m → EndsOn np birth n (front ++ []) s
   all_played front s m is =
       record {
         end = ending 0 s.text;
@@ -45,21 +45,21 @@ module _ (np : NamedPolicy) (birth n : ℕ) (safe : IsSafe np.policy.triggers) w
           record {
             model = m;
             legal = is.1;
-            ends = inl (record { last = s; plays = subst (λ (ls : List (List ℕ)). Plays np birth ls (at_birth np birth) s) (sym (append-nil front)) is.0; history = refl; end_is = refl });
+            ends = inl (record { last = s; plays = subst (λ (ls : List (List ℕ)). MovesThrough np birth ls (at_birth np birth) s) (sym (append-nil front)) is.0; history = refl; end_is = refl });
           },
         );
         more = [];
         text = sym (append-nil s.text);
       }
 
-  module _ (front : List (List ℕ)) (line : List ℕ) (later : List (List ℕ)) (s : Going) where
+  module _ (front : List (List ℕ)) (line : List ℕ) (later : List (List ℕ)) (s : RunState) where
     abbrev Here : Type 0
     Here = EndsOn np birth n (front ++ line ∷ later) s
 
-    abbrev There : Going → Type 0
+    abbrev There : RunState → Type 0
     There t = EndsOn np birth n ((front ++ line ∷ []) ++ later) t
 
-    moved_on : (t : Going) (more : List ℕ) → t.text ≡ s.text ++ more → There t → Here
+    moved_on : (t : RunState) (more : List ℕ) → t.text ≡ s.text ++ more → There t → Here
     moved_on t more is rest =
         record {
           end = rest.end;
@@ -68,7 +68,7 @@ module _ (np : NamedPolicy) (birth n : ℕ) (safe : IsSafe np.policy.triggers) w
           text = rest.text ∙ ap (λ (x : List ℕ). x ++ rest.more) is ∙ append_assoc s.text more rest.more;
         }
 
-    stopped_so : (h : List Entry) (k : Model) (t : EndView) → Plays np birth front (at_birth np birth) s → Legal np.policy birth h k → Stops np birth (said np line) (n + length front) s h (behind s.text t) → Here
+    stopped_so : (h : List Entry) (k : Model) (t : EndView) → MovesThrough np birth front (at_birth np birth) s → Legal np.policy birth h k → Stops np birth (said np line) (n + length front) s h (behind s.text t) → Here
     stopped_so h k t plays legal stops =
         record {
           end = behind s.text t;
@@ -78,13 +78,13 @@ module _ (np : NamedPolicy) (birth n : ℕ) (safe : IsSafe np.policy.triggers) w
         }
 
     abbrev Goes : Type 0
-    Goes = (t : Going) (k : Model) → Moves np birth (said np line) s t → Legal np.policy birth t.history k → length t.history ≤ MAX_STEPS → There t
+    Goes = (t : RunState) (k : Model) → Moves np birth (said np line) s t → Legal np.policy birth t.history k → length t.history ≤ MAX_STEPS → There t
 
     by_line : (m : Model) → Stands front s m → Goes → (r : Result Line LineFault) → said np line ≡ r → Here
     by_line m is on (Ok Silent) e =
         moved_on s [] (sym (append-nil s.text)) (on s m (subst (λ (r : Result Line LineFault). Moves np birth r s s) (sym e) refl) is.1 is.2)
     by_line m is on (Ok (Be actor)) e =
-        let t : Going = record { actor = actor; history = s.history; text = s.text ++ codes "ok\n" } in
+        let t : RunState = record { actor = actor; history = s.history; text = s.text ++ codes "ok\n" } in
         moved_on t (codes "ok\n") refl (on t m (subst (λ (r : Result Line LineFault). Moves np birth r s t) (sym e) refl) is.1 is.2)
     by_line m is on (Ok (At minute)) e = by go.done
       where
@@ -94,7 +94,7 @@ module _ (np : NamedPolicy) (birth n : ℕ) (safe : IsSafe np.policy.triggers) w
         h : List Entry
         h = s.history ++ go.ticks
 
-        t : Going
+        t : RunState
         t = record { actor = s.actor; history = h; text = s.text }
 
         by : (minute ≤ now_of birth h) ⊎ ((now_of birth h < minute) × (length h ≡ MAX_STEPS)) → Here
@@ -111,7 +111,7 @@ module _ (np : NamedPolicy) (birth n : ℕ) (safe : IsSafe np.policy.triggers) w
         room y =
             let lt : length s.history < MAX_STEPS = ltb-true (length s.history) MAX_STEPS y in
             let a = asks_on np.policy birth safe s.history m is.1 s.actor request in
-            let t : Going = record { actor = s.actor; history = s.history ++ asked scripts_who s.actor request a.0 ∷ []; text = s.text ++ reply_line np a.0 } in
+            let t : RunState = record { actor = s.actor; history = s.history ++ asked scripts_who s.actor request a.0 ∷ []; text = s.text ++ reply_line np a.0 } in
             moved_on t (reply_line np a.0) refl
             (on t a.1 (subst (λ (r : Result Line LineFault). Moves np birth r s t) (sym e) (a.0, lt, refl)) a.2 (omega (arith, lt, length-append s.history (asked scripts_who s.actor request a.0 ∷ []))))
 
@@ -124,7 +124,7 @@ module _ (np : NamedPolicy) (birth n : ℕ) (safe : IsSafe np.policy.triggers) w
         stopped_so s.history m (script_fault (n + length front) (fault_word fault)) is.0 is.1
         (subst (λ (r : Result Line LineFault). Stops np birth r (n + length front) s s.history (behind s.text (script_fault (n + length front) (fault_word fault)))) (sym e) (refl, refl))
 
-  pub ends_on : (later front : List (List ℕ)) (s : Going) (m : Model) → Stands front s m → EndsOn np birth n (front ++ later) s
+  pub ends_on : (later front : List (List ℕ)) (s : RunState) (m : Model) → Stands front s m → EndsOn np birth n (front ++ later) s
   ends_on [] front s m is = all_played front s m is
   ends_on (line ∷ later) front s m is =
       by_line front line later s m is

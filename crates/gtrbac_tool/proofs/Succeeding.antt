@@ -9,7 +9,7 @@ use Rattle.walk_laws.proofs.Closing.{tells}
 use Rattle.gt_text.specs.Lines.{lines_of}
 use Rattle.policy_words.specs.Naming.{NamedPolicy}
 use Rattle.policy_commands.specs.Ends.{EndView}
-use Rattle.policy_commands.specs.Policies.{read_or_told, safe_or_told, judged, policy_in, judged_or_told, safe_in}
+use Rattle.policy_commands.specs.Policies.{policy_or_end, safe_or_cycle, judged, policy_in, judged_or_end, safe_in}
 use Rattle.policy_gen.specs.Texts.{time_line, policy_text, script_text}
 use Rattle.policy_gen.specs.declared.scripts.TheConstants.{FIRST_MINUTE}
 use Rattle.request_text.specs.declared.lines.Line.{Line}
@@ -22,15 +22,15 @@ use Rattle.gen_laws.specs.Laws.{IsBorn}
 use Rattle.gen_laws.proofs.ReadPolicy.{policy_is_read, policy_is_safe}
 use Rattle.gen_laws.proofs.Script.{script_is_said, script_is_born}
 use Rattle.gen_laws.proofs.Short.{history_is_short}
-use Rattle.gtrbac_tool.specs.Script.{scripts_who, Going, AreTicks, Arrives, IsFilled, said, Moves, Plays, Stops, at_birth, StoppedAt, PlayedOut, begun, born, start_of}
+use Rattle.gtrbac_tool.specs.Script.{scripts_who, RunState, AreTicks, Arrives, IsFilled, said, Moves, MovesThrough, Stops, at_birth, StoppedAt, PlayedOut, begun, born, start_of}
 use Rattle.gtrbac_tool.specs.Summary.{Gen, summed, Summed, SummedFrom, SummedOver, GenEnds}
 
 -- the made policy is the safe one of its text
 safe_made : (size : ℕ) → 1 ≤ size → safe_in (policy_text size) ≡ Ok (made_policy size)
 unfolding safe_in policy_in judged
 safe_made size low =
-    ap (λ r. judged_or_told (read_or_told r)) (policy_is_read size low)
-    ∙ ap (safe_or_told (made_policy size)) ((tells (made_policy size).policy.triggers).0 (policy_is_safe size))
+    ap (λ r. judged_or_end (policy_or_end r)) (policy_is_read size low)
+    ∙ ap (safe_or_cycle (made_policy size)) ((tells (made_policy size).policy.triggers).0 (policy_is_safe size))
 
 -- a list of texts in two parts, of which each says its part
 
@@ -75,34 +75,34 @@ ticks_to bound (e ∷ es) h = (subst (λ (x : Entry). IsTickTo bound x.what) (sy
 
 module _ (np : NamedPolicy) (birth : ℕ) where
   -- what a run added, as the lines say
-  pub record Added (ls : List Line) (s t : Going) : Type 0 where
+  pub record Added (ls : List Line) (s t : RunState) : Type 0 where
     pub entries : List Entry
     pub added : t.history ≡ s.history ++ entries
     pub follows : FollowsLines ls entries
 
-  one_move : (l : Line) (ls : List Line) (s m t : Going) → Moves np birth (Ok l) s m → Added ls m t → Added (l ∷ ls) s t
+  one_move : (l : Line) (ls : List Line) (s m t : RunState) → Moves np birth (Ok l) s m → Added ls m t → Added (l ∷ ls) s t
   one_move Silent ls s m t move rest =
-      record { entries = rest.entries; added = rest.added ∙ ap (λ (x : Going). x.history ++ rest.entries) move; follows = rest.follows }
+      record { entries = rest.entries; added = rest.added ∙ ap (λ (x : RunState). x.history ++ rest.entries) move; follows = rest.follows }
   one_move (Be actor) ls s m t move rest =
-      record { entries = rest.entries; added = rest.added ∙ ap (λ (x : Going). x.history ++ rest.entries) move; follows = rest.follows }
+      record { entries = rest.entries; added = rest.added ∙ ap (λ (x : RunState). x.history ++ rest.entries) move; follows = rest.follows }
   one_move (At minute) ls s m t move rest =
       let arrives : Arrives birth minute s.history move.0 = move.1 in
       record {
         entries = arrives.ticks ++ rest.entries;
         added =
-            rest.added ∙ ap (λ (x : Going). x.history ++ rest.entries) move.2 ∙ ap (λ (x : List Entry). x ++ rest.entries) arrives.added ∙ append_assoc s.history arrives.ticks rest.entries;
+            rest.added ∙ ap (λ (x : RunState). x.history ++ rest.entries) move.2 ∙ ap (λ (x : List Entry). x ++ rest.entries) arrives.added ∙ append_assoc s.history arrives.ticks rest.entries;
         follows = (arrives.ticks, rest.entries, refl, ticks_to minute arrives.ticks arrives.are_ticks, rest.follows);
       }
   one_move (Ask request) ls s m t move rest =
       let e : Entry = asked scripts_who s.actor request move.0 in
       record {
         entries = e ∷ rest.entries;
-        added = rest.added ∙ ap (λ (x : Going). x.history ++ rest.entries) move.2 ∙ append_assoc s.history (e ∷ []) rest.entries;
+        added = rest.added ∙ ap (λ (x : RunState). x.history ++ rest.entries) move.2 ∙ append_assoc s.history (e ∷ []) rest.entries;
         follows = (scripts_who, s.actor, move.0, rest.entries, refl, rest.follows);
       }
 
-  run_added : (ts : List (List ℕ)) (ls : List Line) (s t : Going) → map (said np) ts ≡ map (λ l. Ok l) ls → Plays np birth ts s t → Added ls s t
-  run_added [] [] s t e plays = record { entries = []; added = ap (λ (x : Going). x.history) plays ∙ sym (append-nil s.history); follows = refl }
+  run_added : (ts : List (List ℕ)) (ls : List Line) (s t : RunState) → map (said np) ts ≡ map (λ l. Ok l) ls → MovesThrough np birth ts s t → Added ls s t
+  run_added [] [] s t e plays = record { entries = []; added = ap (λ (x : RunState). x.history) plays ∙ sym (append-nil s.history); follows = refl }
   run_added [] (l ∷ ls) s t e plays = cc
   run_added (x ∷ ts) [] s t e plays = cc
   run_added (x ∷ ts) (l ∷ ls) s t e plays =
@@ -127,7 +127,7 @@ module _ (seed size : ℕ) (low : 1 ≤ size) (high : size ≤ 100_000) where
   never_full h lt e = omega (arith, lt, e)
 
   -- no line stops the run
-  module _ (front : List (List ℕ)) (line : List ℕ) (rest : List (List ℕ)) (is : made.behind ≡ front ++ line ∷ rest) (before : Going) (plays : Plays np FIRST_MINUTE front (at_birth np FIRST_MINUTE) before)
+  module _ (front : List (List ℕ)) (line : List ℕ) (rest : List (List ℕ)) (is : made.behind ≡ front ++ line ∷ rest) (before : RunState) (plays : MovesThrough np FIRST_MINUTE front (at_birth np FIRST_MINUTE) before)
       (h : List Entry) (m : Model) (legal : Legal np.policy FIRST_MINUTE h m) where
     cut : Parts (said np) front (line ∷ rest) (script_moves seed size)
     cut = in_parts (said np) front (line ∷ rest) (script_moves seed size) (ap (map (said np)) (sym is) ∙ moves)

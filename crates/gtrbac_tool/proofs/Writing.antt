@@ -11,7 +11,7 @@ use Rattle.policy_commands.specs.declared.ends.End.{End}
 use Rattle.policy_commands.specs.Ends.{EndView, seen_end}
 use Rattle.policy_commands.specs.Printing.{IsPrinted, WantsMemory}
 use Rattle.gtrbac_tool.specs.EndTexts.{behind}
-use Rattle.gtrbac_tool.specs.Writing.{AppendsPrefix, IsCutShort, Prints, Tells, Hands}
+use Rattle.gtrbac_tool.specs.Writing.{AppendsPrefix, IsCutShort, Prints, PrintsEnd, Hands}
 
 -- what was written so far is a prefix of each text that begins with it
 pub prefix_of : (a b : Option (List ℕ)) (sent rest text : List ℕ) → Appends a b sent → text ≡ sent ++ rest → AppendsPrefix a b text
@@ -69,7 +69,7 @@ prints_from (Err f) status a b c sent h p =
 
 -- what is told
 module _ (status : ℕ) (a b : Output) where
-  pub shown : {E : Type 0} (Pieces : Type 0) (Ends : EndView → Type 0) (r : Result End E) → Prints r status a b → IfOk r (λ e. Ends (seen_end e)) → Tells Pieces Ends status a b
+  pub shown : {E : Type 0} (Pieces : Type 0) (Ends : EndView → Type 0) (r : Result End E) → Prints r status a b → IfOk r (λ e. Ends (seen_end e)) → PrintsEnd Pieces Ends status a b
   shown Pieces Ends (Ok e) p is = inr (seen_end e, is, inl p)
   shown Pieces Ends (Err f) p is = inl p
 
@@ -80,7 +80,7 @@ module _ (status : ℕ) (a b : Output) where
   how_so P Q end so (inl p) = inl p
   how_so P Q end so (inr p) = inr (so p.0, p.1)
 
-  pub tells_so : (P Q : Type 0) (Ends Others : EndView → Type 0) → (P → Q) → ((end : EndView) → Ends end → Others end) → Tells P Ends status a b → Tells Q Others status a b
+  pub tells_so : (P Q : Type 0) (Ends Others : EndView → Type 0) → (P → Q) → ((end : EndView) → Ends end → Others end) → PrintsEnd P Ends status a b → PrintsEnd Q Others status a b
   tells_so P Q Ends Others pieces so (inl w) = inl w
   tells_so P Q Ends Others pieces so (inr h) = inr (h.0, so h.0 h.1, how_so P Q h.0 pieces h.2)
 
@@ -90,6 +90,6 @@ module _ (status : ℕ) (a b : Output) where
   of_end P end five eight (inr p) = absurd (eight p.1.0)
 
   -- another status than 5 and 8 is that of the end
-  pub tells_at : (P : Type 0) (Ends : EndView → Type 0) → (status ≡ 5 → ⊥) → (status ≡ 8 → ⊥) → Tells P Ends status a b → (end : EndView) × Ends end × (end.status ≡ status)
+  pub tells_at : (P : Type 0) (Ends : EndView → Type 0) → (status ≡ 5 → ⊥) → (status ≡ 8 → ⊥) → PrintsEnd P Ends status a b → (end : EndView) × Ends end × (end.status ≡ status)
   tells_at P Ends five eight (inl w) = absurd (eight w.0)
   tells_at P Ends five eight (inr h) = (h.0, h.1, of_end P h.0 five eight h.2)

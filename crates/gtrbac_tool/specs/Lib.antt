@@ -1,6 +1,6 @@
 pub mod EndTexts
 pub mod Script
-pub mod Going
+pub mod RunStates
 pub mod Writing
 pub mod Started
 pub mod Summary

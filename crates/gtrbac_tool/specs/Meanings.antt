@@ -16,13 +16,13 @@ use Rattle.request_text.specs.declared.lines.Line.TheVariants.{Silent, At, Be, A
 use Rattle.request_text.specs.declared.lines.LineFault.{LineFault}
 use Rattle.gtrbac_tool.specs.declared.ahead.Inquiry.{Inquiry}
 use Rattle.gtrbac_tool.specs.Late.{AnswersScript}
-use Rattle.gtrbac_tool.specs.Script.{Going, never, born, failed, start_of, IsFilled, Plays, at_birth, said, scripts_who, RunOver, Ends}
+use Rattle.gtrbac_tool.specs.Script.{RunState, never, born, failed, start_of, IsFilled, MovesThrough, at_birth, said, scripts_who, RunOver, Ends}
 use Rattle.gtrbac_tool.specs.declared.top.TheConstants.{MAX_SCRIPT}
 
 -- the first lines that say anything bear the script, and the lines behind before one that holds so
 -- are played, over a history that is legal with its execution model
 pub record ComesTo (np : NamedPolicy) (script : List ℕ)
-    (Holds : ℕ → Result Line LineFault → Going → List Entry → Type 0) : Type 0 where
+    (Holds : ℕ → Result Line LineFault → RunState → List Entry → Type 0) : Type 0 where
   pub birth : ℕ
   pub number : ℕ
   pub lines : List (List ℕ)
@@ -34,17 +34,17 @@ pub record ComesTo (np : NamedPolicy) (script : List ℕ)
   pub line : List ℕ
   pub rest : List (List ℕ)
   pub parts : lines ≡ front ++ line ∷ rest
-  pub before : Going
-  pub plays : Plays np birth front (at_birth np birth) before
+  pub before : RunState
+  pub plays : MovesThrough np birth front (at_birth np birth) before
   pub holds : Holds birth (said np line) before history
 
 -- the line has a fault
-abbrev pub IsFaulty : ℕ → Result Line LineFault → Going → List Entry → Type 0
+abbrev pub IsFaulty : ℕ → Result Line LineFault → RunState → List Entry → Type 0
 IsFaulty birth (Ok line) s h = ⊥
 IsFaulty birth (Err fault) s h = h ≡ s.history
 
 -- the line asks for a step with a full history
-abbrev pub IsFullAt : ℕ → Result Line LineFault → Going → List Entry → Type 0
+abbrev pub IsFullAt : ℕ → Result Line LineFault → RunState → List Entry → Type 0
 IsFullAt birth (Ok Silent) s h = ⊥
 IsFullAt birth (Ok (Be actor)) s h = ⊥
 IsFullAt birth (Ok (At minute)) s h = IsFilled birth minute s.history h
@@ -66,8 +66,8 @@ pub record IsPlayedOut (np : NamedPolicy) (script : List ℕ) : Type 0 where
   pub number : ℕ
   pub lines : List (List ℕ)
   pub begins : start_of np 1 (lines_of script) ≡ born birth number lines
-  pub last : Going
-  pub plays : Plays np birth lines (at_birth np birth) last
+  pub last : RunState
+  pub plays : MovesThrough np birth lines (at_birth np birth) last
   pub model : Model
   pub legal : Legal np.policy birth last.history model
 

@@ -6,7 +6,7 @@ use Rattle.gt_io.specs.Streams.{Intake, Output, stops}
 use Rattle.gt_io.specs.declared.source.TheConstants.{READ_PIECE}
 use Rattle.policy_commands.specs.Ends.{EndView}
 use Rattle.gtrbac_tool.specs.Script.{IsRunStatus}
-use Rattle.gtrbac_tool.specs.Writing.{Tells}
+use Rattle.gtrbac_tool.specs.Writing.{PrintsEnd}
 use Rattle.gtrbac_tool.specs.declared.top.TheConstants.{MAX_SCRIPT}
 
 -- an end over the input, which failed at 4 alone, and was read to its end where a script was run
@@ -22,7 +22,7 @@ Reads Plays Ends a b end =
 pub record Works {I : Type 0} (intake : I → Intake) (Pieces Plays Asks : Type 0)
     (Ends : Type 0 → Option (List ℕ) → EndView → Type 0) (old new : I) (status : ℕ) (a b : Output)
     : Type 0 where
-  pub tells : Tells Pieces (Reads Plays Ends (intake old) (intake new)) status a b
+  pub tells : PrintsEnd Pieces (Reads Plays Ends (intake old) (intake new)) status a b
   pub once : AtMostOnce (stops (intake old)) (stops (intake new))
   pub short : TakesFront (MAX_SCRIPT + READ_PIECE) (intake old).left (intake new).left
   pub untouched : (new ≡ old) ⊎ Asks

@@ -27,7 +27,7 @@ abbrev pub scripts_who : Who
 scripts_who = record { worker = 0; conn = 1 }
 
 -- where a run stands: who acts, the entries so far, and the text of their replies
-pub record Going : Type 0 where
+pub record RunState : Type 0 where
   pub actor : Actor
   pub history : List Entry
   pub text : List ℕ
@@ -59,7 +59,7 @@ pub record IsFilled (birth minute : ℕ) (old new : List Entry) : Type 0 where
 
 module _ (np : NamedPolicy) (birth : ℕ) where
   -- how a line moves a run that goes on behind it
-  abbrev pub Moves : Result Line LineFault → Going → Going → Type 0
+  abbrev pub Moves : Result Line LineFault → RunState → RunState → Type 0
   Moves (Ok Silent) s t = t ≡ s
   Moves (Ok (Be actor)) s t =
       t ≡ record { actor = actor; history = s.history; text = s.text ++ codes "ok\n" }
@@ -77,13 +77,13 @@ module _ (np : NamedPolicy) (birth : ℕ) where
   Moves (Err fault) s t = ⊥
 
   -- lines move a run one after another
-  abbrev pub Plays : List (List ℕ) → Going → Going → Type 0
-  Plays [] s t = t ≡ s
-  Plays (line ∷ lines) s t = (m : Going) × Moves (said np line) s m × Plays lines m t
+  abbrev pub MovesThrough : List (List ℕ) → RunState → RunState → Type 0
+  MovesThrough [] s t = t ≡ s
+  MovesThrough (line ∷ lines) s t = (m : RunState) × Moves (said np line) s m × MovesThrough lines m t
 
   -- how a line, with its number, ends a run: a line with a fault, or a step asked for with a full
   -- history
-  abbrev pub Stops : Result Line LineFault → ℕ → Going → List Entry → EndView → Type 0
+  abbrev pub Stops : Result Line LineFault → ℕ → RunState → List Entry → EndView → Type 0
   Stops (Ok Silent) n s h end = ⊥
   Stops (Ok (Be actor)) n s h end = ⊥
   Stops (Ok (At minute)) n s h end =
@@ -93,13 +93,13 @@ module _ (np : NamedPolicy) (birth : ℕ) where
   Stops (Err fault) n s h end =
       (h ≡ s.history) × (end ≡ behind s.text (script_fault n (fault_word fault)))
 
-  abbrev pub at_birth : Going
+  abbrev pub at_birth : RunState
   at_birth = record { actor = Operator; history = []; text = [] }
 
   -- all lines were played, with status 0
   pub record PlayedOut (lines : List (List ℕ)) (h : List Entry) (end : EndView) : Type 0 where
-    pub last : Going
-    pub plays : Plays lines at_birth last
+    pub last : RunState
+    pub plays : MovesThrough lines at_birth last
     pub history : h ≡ last.history
     pub end_is : end ≡ ending 0 last.text
 
@@ -110,8 +110,8 @@ module _ (np : NamedPolicy) (birth : ℕ) where
     pub line : List ℕ
     pub rest : List (List ℕ)
     pub parts : lines ≡ front ++ line ∷ rest
-    pub before : Going
-    pub plays : Plays front at_birth before
+    pub before : RunState
+    pub plays : MovesThrough front at_birth before
     pub stops : Stops (said np line) (n + length front) before h end
 
 -- a run from its birth, with the lines behind the birth's numbered from n, over a history that is

@@ -11,8 +11,8 @@ use Rattle.gtrbac_tool.specs.declared.script.Ran.{Ran}
 use Rattle.gtrbac_tool.specs.declared.script.Ran.TheVariants.{Unborn, Born}
 use Rattle.gtrbac_tool.specs.EndTexts.{behind, script_fault, no_birth}
 use Rattle.gtrbac_tool.specs.Script.{ScriptStart, never, born, failed, EndsFrom}
-use Rattle.gtrbac_tool.specs.Going.{IsOutcome}
-use Rattle.gtrbac_tool.specs.Writing.{Hands, Tells}
+use Rattle.gtrbac_tool.specs.RunStates.{IsOutcome}
+use Rattle.gtrbac_tool.specs.Writing.{Hands, PrintsEnd}
 
 abbrev pub started_so : Found → List (List ℕ) → ScriptStart
 started_so found.Never later = never
@@ -40,7 +40,7 @@ abbrev pub Leads : NamedPolicy → ScriptStart → Bool → Result Ran ℕ → O
 Leads np start pieces (Ok ran) a b =
     (sent : List ℕ) × RanFrom np start sent ran × Hands pieces a b sent
 Leads np start pieces (Err status) a b =
-    MatchBool pieces (Tells ⊤ (EndsFrom np start) status a b)
+    MatchBool pieces (PrintsEnd ⊤ (EndsFrom np start) status a b)
     (WantsMemory status a.written b.written a.faults b.faults)
 
 -- without a birth there is nothing to tell of what is asked

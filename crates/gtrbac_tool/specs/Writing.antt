@@ -24,8 +24,8 @@ Prints (Err fault) status a b = WantsMemory status a.written b.written a.faults 
 
 -- a call that prints what it ends with, or, for want of memory, nothing; where this holds, perhaps a
 -- prefix of it
-abbrev pub Tells : Type 0 → (EndView → Type 0) → ℕ → Output → Output → Type 0
-Tells Pieces Ends status a b =
+abbrev pub PrintsEnd : Type 0 → (EndView → Type 0) → ℕ → Output → Output → Type 0
+PrintsEnd Pieces Ends status a b =
     WantsMemory status a.written b.written a.faults b.faults
     ⊎ ((end : EndView) × Ends end
     × (IsPrinted status end a.written b.written a.faults b.faults

@@ -9,7 +9,7 @@ ghost use Rattle.policy_commands.specs.Ends.{seen_end, ending};
 ghost use Rattle.gtrbac_tool.specs.declared.script.Ran.TheVariants.{Born};
 ghost use Rattle.gtrbac_tool.specs.EndTexts.{behind, script_line};
 ghost use Rattle.gtrbac_tool.specs.Script.{Arrives, IsFilled, born, said};
-ghost use Rattle.gtrbac_tool.specs.Going.{going_of, IsActorOf, played_as, PlaysAs};
+ghost use Rattle.gtrbac_tool.specs.RunStates.{run_state_of, IsActorOf, played_as, PlaysAs};
 ghost use Rattle.gtrbac_tool.specs.Started.{Leads};
 
 use crate::replying::hand_out;
@@ -71,8 +71,8 @@ fn put(run: &mut Run, request: Request) -> Result<bool, Memory>
     ensures actor { OnOk result (run.new.actor ≡ run.old.actor) }
     ensures did { IfOk result
         (λ done. PlaysAs run.old.book.named run.old.book.birth (Ok (Ask request))
-        (played_as done) (going_of run.old.book run.old.actor run.old.text.items)
-        (going_of run.new.book run.new.actor run.new.text.items)) }
+        (played_as done) (run_state_of run.old.book run.old.actor run.old.text.items)
+        (run_state_of run.new.book run.new.actor run.new.text.items)) }
 {
     run.book.keeps();
     match run.book.ask(SCRIPT, run.actor, request) {
@@ -100,8 +100,8 @@ pub(crate) fn play_line(run: &mut Run, line: &[u8]) -> Result<Played, Memory>
     ensures actor { OnOk result (IsActorOf run.new.book run.new.actor) }
     ensures did { IfOk result
         (λ how. PlaysAs run.old.book.named run.old.book.birth (said run.old.book.named line.now)
-        how (going_of run.old.book run.old.actor run.old.text.items)
-        (going_of run.new.book run.new.actor run.new.text.items)) }
+        how (run_state_of run.old.book run.old.actor run.old.text.items)
+        (run_state_of run.new.book run.new.actor run.new.text.items)) }
 {
     match read_line(run.book.policy(), Actor::Operator, true, line) {
         Ok(said) => match said {

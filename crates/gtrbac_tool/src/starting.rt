@@ -10,7 +10,7 @@ ghost use Rattle.gtrbac_tool.specs.Script.{start_of, EndsFrom};
 ghost use Rattle.gtrbac_tool.specs.Late.{AnswersFrom};
 ghost use Rattle.gtrbac_tool.specs.Started.{IsUnborn, started_so, number_of, Leads};
 ghost use Rattle.gtrbac_tool.specs.Ends.{PlaysTo};
-ghost use Rattle.gtrbac_tool.specs.Writing.{Tells};
+ghost use Rattle.gtrbac_tool.specs.Writing.{PrintsEnd};
 
 use crate::ahead::{Inquiry, answered};
 use crate::replying::show;
@@ -98,7 +98,7 @@ pub(crate) fn begin<K: Sink>(
 /// than 4,294,967,296 bytes.
 fn play_and_reply<K: Sink>(alloc: Global, safe: Safe, script: &[u8], out: &mut K) -> u8
     requires { length script.now < 2 ^ 32 }
-    ensures { Tells ⊤ (EndsFrom safe (start_of safe 1 (lines_of script.now))) result
+    ensures { PrintsEnd ⊤ (EndsFrom safe (start_of safe 1 (lines_of script.now))) result
         (K.output out.old) (K.output out.new) }
 {
     match begin(alloc, safe, script, true, out) {
@@ -139,7 +139,7 @@ fn play_and_answer<K: Sink>(
     out: &mut K,
 ) -> u8
     requires { length script.now < 2 ^ 32 }
-    ensures { Tells ⊥ (AnswersFrom safe asked (start_of safe 1 (lines_of script.now))) result
+    ensures { PrintsEnd ⊥ (AnswersFrom safe asked (start_of safe 1 (lines_of script.now))) result
         (K.output out.old) (K.output out.new) }
 {
     match begin(alloc, safe, script, false, out) {
@@ -159,7 +159,7 @@ pub(crate) fn play<K: Sink>(
     out: &mut K,
 ) -> u8
     requires { length script.now ≤ MAX_SCRIPT }
-    ensures { Tells (asked ≡ None) (PlaysTo safe asked script.now) result (K.output out.old)
+    ensures { PrintsEnd (asked ≡ None) (PlaysTo safe asked script.now) result (K.output out.old)
         (K.output out.new) }
 {
     match asked {

@@ -6,7 +6,7 @@ ghost use Rattle.policy_commands.specs.Ends.{seen_end};
 ghost use Rattle.gtrbac_tool.specs.Script.{start_of};
 ghost use Rattle.gtrbac_tool.specs.Summary.{IsGen, IsNoGen, GenEnds, SummedFrom, summed, gen_line, steps_line, end_line};
 ghost use Rattle.policy_words.specs.Naming.{NamedPolicy};
-ghost use Rattle.gtrbac_tool.specs.Writing.{Tells};
+ghost use Rattle.gtrbac_tool.specs.Writing.{PrintsEnd};
 ghost use Rattle.gtrbac_tool.specs.Counted.{seen_recipe, word_text, permits, replies, counts, tally_line, tally};
 
 use crate::replying::show;
@@ -209,7 +209,7 @@ fn play_and_sum<K: Sink>(
     out: &mut K,
 ) -> u8
     requires { length script.now < 2 ^ 32 }
-    ensures { Tells ⊥ (SummedFrom safe (seen_recipe recipe) (start_of safe 1 (lines_of script.now)))
+    ensures { PrintsEnd ⊥ (SummedFrom safe (seen_recipe recipe) (start_of safe 1 (lines_of script.now)))
         result (K.output out.old) (K.output out.new) }
 {
     match begin(alloc, safe, script, false, out) {
@@ -222,7 +222,7 @@ fn play_and_sum<K: Sink>(
 /// Makes the policy and the script of a recipe, plays them, and prints a summary. It reads nothing.
 pub(crate) fn generate<K: Sink>(alloc: Global, recipe: Recipe, out: &mut K) -> u8
     requires { (1 ≤ recipe.size) × (recipe.size ≤ MAX_SIZE) }
-    ensures { Tells ⊥ (GenEnds (seen_recipe recipe)) result (K.output out.old)
+    ensures { PrintsEnd ⊥ (GenEnds (seen_recipe recipe)) result (K.output out.old)
         (K.output out.new) }
 {
     let Ok(made) = make(alloc, recipe.seed, recipe.size) else {

@@ -26,8 +26,8 @@ use Rattle.policy_words.specs.Valid.{IsWellFormed}
 use Rattle.policy_book.proofs.WellFormed.{build_is_well_formed}
 use Rattle.policy_text.proofs.CanonicalText.{canonical_is_read}
 use Rattle.policy_commands.specs.Ends.{EndView, ending}
-use Rattle.policy_commands.specs.Policies.{read_or_told, policy_in, safe_or_told, judged, judged_or_told, safe_in, HasTextFault, IsUnsafeText}
-use Rattle.policy_commands.specs.Commands.{laid_or_told, fmt_end, safe_or_end, check_end}
+use Rattle.policy_commands.specs.Policies.{policy_or_end, policy_in, safe_or_cycle, judged, judged_or_end, safe_in, HasTextFault, IsUnsafeText}
+use Rattle.policy_commands.specs.Commands.{laid_or_end, fmt_end, safe_or_end, check_end}
 use Rattle.policy_commands.specs.Meanings.{IsSafeText, SafeMeans, UnsafeMeans, FaultMeans, FmtFaultMeans, FmtKeeps}
 
 status : EndView → ℕ
@@ -37,17 +37,17 @@ one_model : (p : Policy) → IsSafe p.triggers → HasOneModel p
 one_model p safe = let levels = safe_is_levelled p.triggers safe in levels_give_one_model p levels.0 (by_trigger p.triggers levels.0 levels.1)
 
 module _ (text : List ℕ) where
-  check_is : (r : Result NamedPolicy PolicyFault) → policy_read text ≡ r → check_end text ≡ safe_or_end (judged_or_told (read_or_told r))
+  check_is : (r : Result NamedPolicy PolicyFault) → policy_read text ≡ r → check_end text ≡ safe_or_end (judged_or_end (policy_or_end r))
   unfolding check_end safe_in policy_in
-  check_is r e = ap (λ x. safe_or_end (judged_or_told (read_or_told x))) e
+  check_is r e = ap (λ x. safe_or_end (judged_or_end (policy_or_end x))) e
 
-  check_read : (np : NamedPolicy) (c : Option (List ℕ)) → policy_read text ≡ Ok np → the_cycle np.policy.triggers ≡ c → check_end text ≡ safe_or_end (safe_or_told np c)
+  check_read : (np : NamedPolicy) (c : Option (List ℕ)) → policy_read text ≡ Ok np → the_cycle np.policy.triggers ≡ c → check_end text ≡ safe_or_end (safe_or_cycle np c)
   unfolding judged
-  check_read np c read e = check_is (Ok np) read ∙ ap (λ x. safe_or_end (safe_or_told np x)) e
+  check_read np c read e = check_is (Ok np) read ∙ ap (λ x. safe_or_end (safe_or_cycle np x)) e
 
-  pub fmt_is : (r : Result NamedPolicy PolicyFault) → policy_read text ≡ r → fmt_end text ≡ laid_or_told (read_or_told r)
+  pub fmt_is : (r : Result NamedPolicy PolicyFault) → policy_read text ≡ r → fmt_end text ≡ laid_or_end (policy_or_end r)
   unfolding fmt_end policy_in
-  fmt_is r e = ap (λ x. laid_or_told (read_or_told x)) e
+  fmt_is r e = ap (λ x. laid_or_end (policy_or_end x)) e
 
   to_safe : check_end text ≡ ending 0 (codes "safe\n") → (r : Result NamedPolicy PolicyFault) → policy_read text ≡ r → IsSafeText text
   to_safe h (Ok np) e = by (the_cycle np.policy.triggers) refl

@@ -9,7 +9,7 @@ use Rattle.policy_words.specs.PolicyRead.{edge_text, numbered_edge}
 use Rattle.policy_safety.specs.declared.admitting.CycleEdge.{CycleEdge}
 use Rattle.policy_safety.specs.Cycles.{seen_edge, dependencies_at, IsCycleOf}
 use Rattle.policy_commands.specs.Ends.{ending}
-use Rattle.policy_commands.specs.Policies.{judged, safe_or_told}
+use Rattle.policy_commands.specs.Policies.{judged, safe_or_cycle}
 
 told_edges : (np : NamedPolicy) (es : List CycleEdge) → flat_map (λ e. edge_text np.names (seen_edge e)) es ≡ flat_map (edge_text np.names) (map seen_edge es)
 told_edges np [] = refl
@@ -33,7 +33,7 @@ module _ (np : NamedPolicy) where
 unsafe_told : (np : NamedPolicy) (es : List CycleEdge) → IsCycleOf np.policy.triggers es → judged np ≡ Err (ending 3 (codes "unsafe\n" ++ flat_map (λ e. edge_text np.names (seen_edge e)) es))
 unfolding judged
 unsafe_told np es cycle =
-    ap (safe_or_told np) cycle.cycle
+    ap (safe_or_cycle np) cycle.cycle
     ∙ ap (λ (t : List ℕ). Err (ending 3 (codes "unsafe\n" ++ t))) (sym (told_edges np es ∙ ap (flat_map (edge_text np.names)) cycle.edges_are ∙ numbered_edges np cycle.numbers))
 
 -- a text that began with nothing
@@ -44,4 +44,4 @@ unsafe_is np es start text cycle none is =
 
 pub safe_told : (np : NamedPolicy) → IsSafe np.policy.triggers → judged np ≡ Ok np
 unfolding judged
-safe_told np safe = ap (safe_or_told np) ((tells np.policy.triggers).0 safe)
+safe_told np safe = ap (safe_or_cycle np) ((tells np.policy.triggers).0 safe)

@@ -9,25 +9,25 @@ use Rattle.policy_commands.specs.declared.ends.End.{End}
 use Rattle.policy_commands.specs.declared.judging.Admitted.{Admitted}
 use Rattle.policy_commands.specs.declared.judging.Admitted.TheVariants.{Safe, Ended}
 use Rattle.policy_commands.specs.Ends.{EndView, ending, seen_end}
-use Rattle.policy_commands.specs.Policies.{read_or_told, policy_in, judged, safe_or_told, judged_or_told, safe_in, HasTextFault, IsUnsafeText}
-use Rattle.policy_commands.specs.Commands.{laid_or_told, fmt_end, safe_or_end, check_end, IsLaid}
+use Rattle.policy_commands.specs.Policies.{policy_or_end, policy_in, judged, safe_or_cycle, judged_or_end, safe_in, HasTextFault, IsUnsafeText}
+use Rattle.policy_commands.specs.Commands.{laid_or_end, fmt_end, safe_or_end, check_end, IsLaid}
 use Rattle.policy_commands.specs.Admitting.{IsJudged, IsEnded, IsAdmitted}
 
 module _ (text : List ℕ) where
   pub in_built : (np : NamedPolicy) → policy_read text ≡ Ok np → policy_in text ≡ Ok np
   unfolding policy_in
-  in_built np r = ap read_or_told r
+  in_built np r = ap policy_or_end r
 
   pub in_faulty : (t : List ℕ) → IsToldFault text t → policy_in text ≡ Err (ending 2 t)
   unfolding policy_in
-  in_faulty t f = ap read_or_told f.is ∙ ap (λ (s : List ℕ). Err (ending 2 s)) (sym f.told_so)
+  in_faulty t f = ap policy_or_end f.is ∙ ap (λ (s : List ℕ). Err (ending 2 s)) (sym f.told_so)
 
   pub has_fault : (t : List ℕ) → IsToldFault text t → HasTextFault text
   has_fault t f = record { fault = f.fault; is = f.is }
 
   laid_is : (np : NamedPolicy) (end : End) → policy_read text ≡ Ok np → IsLaid np end → seen_end end ≡ fmt_end text
   unfolding fmt_end
-  laid_is np end r h = (λ i. ending (h.zero i) (h.text i)) ∙ ap laid_or_told (sym (in_built np r))
+  laid_is np end r h = (λ i. ending (h.zero i) (h.text i)) ∙ ap laid_or_end (sym (in_built np r))
 
   module _ {E : Type 0} (np : NamedPolicy) (read : policy_read text ≡ Ok np) where
     pub laid_end : (r : Result End E) → IfOk r (IsLaid np) → IfOk r (λ end. seen_end end ≡ fmt_end text)
@@ -47,11 +47,11 @@ module _ (text : List ℕ) where
 
   pub told_end : (t : List ℕ) → IsToldFault text t → ending 2 t ≡ fmt_end text
   unfolding fmt_end
-  told_end t f = ap laid_or_told (sym (in_faulty t f))
+  told_end t f = ap laid_or_end (sym (in_faulty t f))
 
   judged_in : (np : NamedPolicy) → policy_read text ≡ Ok np → safe_in text ≡ judged np
   unfolding safe_in
-  judged_in np r = ap judged_or_told (in_built np r)
+  judged_in np r = ap judged_or_end (in_built np r)
 
   admitted_of : (np : NamedPolicy) (a : Admitted) → policy_read text ≡ Ok np → IsJudged np a → IsAdmitted text a
   admitted_of np (Safe s) r j = judged_in np r ∙ j.1 ∙ ap Ok (sym j.0)
@@ -65,7 +65,7 @@ module _ (text : List ℕ) where
   unfolding safe_in
   ended_of end two f =
       record {
-        told = ap judged_or_told (in_faulty end.text.items f) ∙ ap (λ (n : ℕ). Err (ending n end.text.items)) (sym two);
+        told = ap judged_or_end (in_faulty end.text.items f) ∙ ap (λ (n : ℕ). Err (ending n end.text.items)) (sym two);
         cause = inl (two, has_fault end.text.items f);
       }
 
@@ -98,11 +98,11 @@ module _ (text : List ℕ) (np : NamedPolicy) where
   same : (q : NamedPolicy) → ◌≡◌ {A = Result NamedPolicy EndView} (Ok q) (Ok np) → ◌≡◌ {A = Result NamedPolicy PolicyFault} (Ok q) (Ok np)
   same q e = ap (λ (x : Result NamedPolicy EndView). elim x [ Ok p ↦ Ok p | Err f ↦ Ok q ]) e
 
-  of_cycle : (q : NamedPolicy) (c : Option (List ℕ)) → safe_or_told q c ≡ Ok np → ◌≡◌ {A = Result NamedPolicy PolicyFault} (Ok q) (Ok np)
+  of_cycle : (q : NamedPolicy) (c : Option (List ℕ)) → safe_or_cycle q c ≡ Ok np → ◌≡◌ {A = Result NamedPolicy PolicyFault} (Ok q) (Ok np)
   of_cycle q None e = same q e
   of_cycle q (Some edges) e = absurd (cc e)
 
-  of_read : (r : Result NamedPolicy PolicyFault) → judged_or_told (read_or_told r) ≡ Ok np → r ≡ Ok np
+  of_read : (r : Result NamedPolicy PolicyFault) → judged_or_end (policy_or_end r) ≡ Ok np → r ≡ Ok np
   unfolding judged
   of_read (Ok q) e = of_cycle q (the_cycle q.policy.triggers) e
   of_read (Err f) e = absurd (cc e)

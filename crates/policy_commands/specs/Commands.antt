@@ -6,13 +6,13 @@ use Rattle.policy_commands.specs.declared.ends.End.{End}
 use Rattle.policy_commands.specs.Ends.{EndView, ending}
 use Rattle.policy_commands.specs.Policies.{policy_in, safe_in}
 
-abbrev pub laid_or_told : Result NamedPolicy EndView → EndView
-laid_or_told (Ok np) = ending 0 (canonical_text np)
-laid_or_told (Err t) = t
+abbrev pub laid_or_end : Result NamedPolicy EndView → EndView
+laid_or_end (Ok np) = ending 0 (canonical_text np)
+laid_or_end (Err t) = t
 
 -- `fmt`: whether the policy is safe plays no part
 unfoldable pub fmt_end : List ℕ → EndView
-fmt_end text = laid_or_told (policy_in text)
+fmt_end text = laid_or_end (policy_in text)
 
 abbrev pub safe_or_end : Result NamedPolicy EndView → EndView
 safe_or_end (Ok np) = ending 0 (codes "safe\n")

@@ -10,13 +10,13 @@ use Rattle.connection_laws.specs.Lines.{Answer}
 use Rattle.connection_laws.specs.Attending.{spot, Attends}
 use Rattle.connection_laws.proofs.Stepping.{attends_so}
 use Rattle.snapshot_readers.specs.declared.guide.Guide.{Guide}
-use Rattle.snapshot_readers.specs.Viewing.{SameGlass}
+use Rattle.snapshot_readers.specs.Viewing.{SameGlassRoot}
 use Rattle.snapshot_readers.specs.Guides.{GuideAsks, GuideGets, seen_guide}
 
 module _ {G : Type 0} (o : Guide G) where
   -- it answers by the same policy at the same board
   abbrev pub Same : Guide G → Guide G → Type 0
-  Same j k = (k.policy ≡ j.policy) × SameGlass j.glass.now k.glass.now
+  Same j k = (k.policy ≡ j.policy) × SameGlassRoot j.glass.now k.glass.now
 
   asked_so : (m p : Guide G) (actor : Actor) (request : Request) (answer : Answer) (readings : List ℕ) (entries : List Entry) → Same o m → GuideGets m p actor request answer readings entries
       → Same o p × GuideAsks o.policy.now o.glass.now.birth (seen_guide m) (seen_guide p) actor request answer readings entries

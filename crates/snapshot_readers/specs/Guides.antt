@@ -8,7 +8,7 @@ use Rattle.policy_words.specs.Naming.{NamedPolicy}
 use Rattle.connection_laws.specs.Lines.{Answer}
 use Rattle.snapshot_readers.specs.declared.guide.Guide.{Guide}
 use Rattle.snapshot_readers.specs.Viewed.{lens_in, AscendBetween, AsksView}
-use Rattle.snapshot_readers.specs.Viewing.{SameGlass}
+use Rattle.snapshot_readers.specs.Viewing.{SameGlassRoot}
 
 -- a viewer as it answers: the history that its glass has seen, and the numbers of entries that its
 -- replies are of
@@ -43,6 +43,6 @@ module _ {G : Type 0} where
   pub record GuideGets (j k : Guide G) (actor : Actor) (request : Request) (answer : Answer)
       (readings : List ℕ) (entries : List Entry) : Type 0 where
     pub keeps : KeepsGlass j k
-    pub same : SameGlass j.glass.now k.glass.now
+    pub same : SameGlassRoot j.glass.now k.glass.now
     pub asks : GuideAsks j.policy.now j.glass.now.birth (seen_guide j) (seen_guide k) actor
         request answer readings entries

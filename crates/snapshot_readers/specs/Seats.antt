@@ -20,7 +20,7 @@ use Rattle.snapshot_readers.specs.Crew.{ViewTale, ViewsThrough, AreViewed, Views
 use Rattle.connection_laws.specs.Doors.{Gives}
 use Rattle.connection_laws.specs.Lines.{Answer, shown, Acted, actor_after}
 use Rattle.snapshot_readers.specs.Viewed.{AscendBetween}
-use Rattle.snapshot_readers.specs.Viewing.{CanShow, SameGlass}
+use Rattle.snapshot_readers.specs.Viewing.{CanShow, SameGlassRoot}
 use Rattle.snapshot_readers.specs.declared.seats.ViewerSeat.{ViewerSeat}
 
 -- a viewer as it is seen: its door, its served links, and how it ended
@@ -40,7 +40,7 @@ module _ {D G L : Type 0} (doorway : D → Doorway L) where
   -- door was closed
   pub record HasLooked (traffic : L → Traffic) (np : NamedPolicy) (x y : ViewerSeat D G L)
       : Type 0 where
-    pub same : SameGlass x.glass y.glass
+    pub same : SameGlassRoot x.glass y.glass
     pub works : ViewsThrough traffic np x.glass.birth
         (record { seen = x.glass.seen; door = doorway x.viewer.door })
         (record { seen = y.glass.seen; door = doorway y.viewer.door }) y.viewer.served.items
@@ -73,7 +73,7 @@ module _ {D G L : Type 0} where
 -- a glass looked whether this history begins what was published last
 pub record HasSettled {D G L : Type 0} (h : List Entry) (x y : ViewerSeat D G L) : Type 0 where
   pub viewer : y.viewer ≡ x.viewer
-  pub same : SameGlass x.glass y.glass
+  pub same : SameGlassRoot x.glass y.glass
   pub grows : IsPrefix x.glass.seen y.glass.seen
   pub told : y.told ≡ true → IsPrefix h y.glass.seen
       × IsHistory y.glass.named.policy y.glass.birth y.glass.seen

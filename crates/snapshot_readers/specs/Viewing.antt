@@ -16,8 +16,8 @@ abbrev pub CanShow : NamedPolicy → Glazed → Type 0
 CanShow np g = (g.named ≡ np) × GlancesCanBeTold np g.birth
 
 -- of the same board
-abbrev pub SameGlass : Glazed → Glazed → Type 0
-SameGlass a b = (b.named ≡ a.named) × (b.birth ≡ a.birth)
+abbrev pub SameGlassRoot : Glazed → Glazed → Type 0
+SameGlassRoot a b = (b.named ≡ a.named) × (b.birth ≡ a.birth)
 
 -- What the service of a link comes to, over the history that the glass has then seen: the bytes
 -- taken and given, the acted lines, and how many of them are requests. The link was let go

@@ -4,7 +4,7 @@ ghost use Rattle.snapshot_readers.specs.Guides.{GuideGets};
 ghost use Rattle.snapshot_readers.specs.Viewing.{CanShow};
 
 use crate::glass::Glass;
-use crate::station::Station;
+use crate::server::ViewServer;
 use connection_laws::{Answerer, LineAnswer};
 use core_machine::only_looks;
 use gt_base::{Actor, List, Request};
@@ -17,7 +17,7 @@ use std::mem::replace;
 /// of how many entries the history is that each reply is of.
 #[derive(Drop)]
 pub(crate) struct Guide<'a, G: Gate> {
-    pub(crate) station: &'a Station<'a, G>,
+    pub(crate) server: &'a ViewServer<'a, G>,
     pub(crate) policy: &'a Policy,
     pub(crate) glass: &'a mut Glass,
     pub(crate) lens: &'a mut List<u64>,
@@ -60,7 +60,7 @@ impl<'a, G: Gate> Answerer for Guide<'a, G> {
         request: Request,
         room: &mut List<u8>,
     ) -> LineAnswer {
-        self.station.gate.pass(self.station.number, call);
+        self.server.gate.pass(self.server.number, call);
         if !only_looks(&request) {
             return LineAnswer::ViewOnly;
         }
@@ -73,7 +73,7 @@ impl<'a, G: Gate> Answerer for Guide<'a, G> {
                 reply_fits(self.policy, &glanced.reply);
                 put_reply(self.policy, &glanced.reply, room);
                 self.lens.push(glanced.len);
-                LineAnswer::Reply(replace(room, List::new(self.station.alloc)))
+                LineAnswer::Reply(replace(room, List::new(self.server.alloc)))
             }
             Err(_) => LineAnswer::NoMemory,
         }

@@ -13,7 +13,7 @@ mod machine_board;
 mod named;
 mod seats;
 mod serve;
-mod station;
+mod server;
 mod viewers;
 
 pub use board::{Board, BoardFault};
@@ -23,5 +23,5 @@ pub use glass::{Glanced, Glass};
 pub use glasses::Glasses;
 pub use seats::{ViewerSeat, all_told, leave_seats, run_seats, settle_all, take_seats};
 pub use serve::view_link;
-pub use station::Station;
+pub use server::ViewServer;
 pub use viewers::{Viewer, view};

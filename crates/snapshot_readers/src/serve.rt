@@ -2,12 +2,12 @@
 ghost use Rattle.std.specs.Prelude.{◌≡◌, ◌+◌, ◌<◌, ◌≤◌, ◌^◌, ℕ, false};
 ghost use Rattle.gt_base.specs.declared.limits.TheConstants.{MAX_BYTES};
 ghost use Rattle.snapshot_readers.specs.Viewed.{link_end};
-ghost use Rattle.snapshot_readers.specs.Viewing.{CanShow, SameGlass, Views};
+ghost use Rattle.snapshot_readers.specs.Viewing.{CanShow, SameGlassRoot, Views};
 
 use crate::ends::{ViewEnd, Viewed};
 use crate::glass::Glass;
 use crate::guide::Guide;
-use crate::station::Station;
+use crate::server::ViewServer;
 use connection_laws::{Hearing, LinkEnd, attend};
 use gt_base::List;
 use gt_io::{Gate, Link};
@@ -34,24 +34,24 @@ fn view_end(end: LinkEnd) -> ViewEnd
 pub fn view_link<L: Link, G: Gate>(
     glass: &mut Glass,
     policy: &Policy,
-    station: &Station<'_, G>,
+    server: &ViewServer<'_, G>,
     mut link: L,
     calls: &mut u64,
 ) -> Viewed<L>
     requires shows { CanShow policy.now glass.old }
     requires calls { calls.old < 2 ^ 63 }
     requires open { (L.traffic link).finished ≡ false }
-    ensures glass { SameGlass glass.old glass.new }
+    ensures glass { SameGlassRoot glass.old glass.new }
     ensures views { Views policy.now glass.old.birth glass.old.seen glass.new.seen
         result.lens.items result.denied calls.old calls.new (L.traffic link)
         (L.traffic result.link) result.outcome }
     ensures few { calls.new ≤ calls.old + MAX_BYTES }
 {
-    let mut hearing = Hearing::new(station.alloc, *calls);
-    let mut lens = List::new(station.alloc);
+    let mut hearing = Hearing::new(server.alloc, *calls);
+    let mut lens = List::new(server.alloc);
     let end = attend(
         &mut Guide {
-            station: &*station,
+            server: &*server,
             policy: &*policy,
             glass,
             lens: &mut lens,

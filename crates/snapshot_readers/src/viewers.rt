@@ -1,12 +1,12 @@
 //! The links of a viewer's door, one after the other.
 ghost use Rattle.std.specs.Prelude.{◌≡◌, ◌≤◌, [], true};
 ghost use Rattle.snapshot_readers.specs.Crew.{ViewsThrough};
-ghost use Rattle.snapshot_readers.specs.Viewing.{CanShow, SameGlass};
+ghost use Rattle.snapshot_readers.specs.Viewing.{CanShow, SameGlassRoot};
 
 use crate::ends::{Viewed, ViewerEnd};
 use crate::glass::Glass;
 use crate::serve::view_link;
-use crate::station::Station;
+use crate::server::ViewServer;
 use gt_base::{List, MAX_LINKS};
 use gt_io::{Door, Gate, make_room};
 use policy_book::Policy;
@@ -24,13 +24,13 @@ pub struct Viewer<D: Door, G: Gate> {
 fn view_on<D: Door, G: Gate>(
     glass: &mut Glass,
     policy: &Policy,
-    station: &Station<'_, G>,
+    server: &ViewServer<'_, G>,
     door: &mut D,
     served: &mut List<Viewed<D::L>>,
 ) -> ViewerEnd
     requires shows { CanShow policy.now glass.old }
     requires empty { served.old.items ≡ [] }
-    ensures glass { SameGlass glass.old glass.new }
+    ensures glass { SameGlassRoot glass.old glass.new }
     ensures works { ViewsThrough D.L.traffic policy.now glass.old.birth
         (record { seen = glass.old.seen; door = D.doorway door.old })
         (record { seen = glass.new.seen; door = D.doorway door.new }) served.new.items result }
@@ -43,7 +43,7 @@ fn view_on<D: Door, G: Gate>(
         match door.next() {
             Err(_) => return ViewerEnd::DoorFault,
             Ok(None) => return ViewerEnd::Done,
-            Ok(Some(link)) => served.push(view_link(glass, policy, station, link, &mut calls)),
+            Ok(Some(link)) => served.push(view_link(glass, policy, server, link, &mut calls)),
         }
     }
     ViewerEnd::Enough
@@ -62,24 +62,18 @@ pub fn view<D: Door, G: Gate>(
     requires shows { CanShow policy.now glass.old }
     requires number { v ≤ 7 }
     requires fresh { (viewer.old.outcome ≡ ViewerEnd.Fresh) × (viewer.old.served.items ≡ []) }
-    ensures glass { SameGlass glass.old glass.new }
+    ensures glass { SameGlassRoot glass.old glass.new }
     ensures works { ViewsThrough D.L.traffic policy.now glass.old.birth
         (record { seen = glass.old.seen; door = D.doorway viewer.old.door })
         (record { seen = glass.new.seen; door = D.doorway viewer.new.door })
         viewer.new.served.items viewer.new.outcome }
     ensures closed { (D.doorway viewer.new.door).closed ≡ true }
 {
-    let station = Station {
+    let server = ViewServer {
         alloc,
         gate: &viewer.gate,
         number: 8 + v,
     };
-    viewer.outcome = view_on(
-        glass,
-        policy,
-        &station,
-        &mut viewer.door,
-        &mut viewer.served,
-    );
+    viewer.outcome = view_on(glass, policy, &server, &mut viewer.door, &mut viewer.served);
     viewer.door.close();
 }

@@ -18,7 +18,7 @@ use Rattle.turn_lock.specs.declared.view.SeatView.{SeatView}
 use Rattle.turn_lock.specs.declared.view.Spot.{Spot}
 use Rattle.turn_lock.specs.declared.view.Spot.TheVariants.{Home, Told}
 use Rattle.turn_lock.specs.declared.view.Origin.{Origin}
-use Rattle.turn_lock.specs.Turns.{part, total, Each, is_waiting, is_holding, FitsAccount, FitsStage, FitsView, draws_of, accounts_of, next_of, waits, holds_slot, AtHome, KeptRule, with_ticket, drawn, with_turn, looked, counted, grown, added, rested, passed, staying, stayed, resumed, released, split_left, split_right, joined, spent_view, first_view, plain, Has, EndsPasses}
+use Rattle.turn_lock.specs.Turns.{part, total, Each, is_waiting, is_holding, FitsAccount, FitsStage, FitsView, draws_of, accounts_of, next_of, waits, holds_slot, AtHome, KeptRule, with_ticket, drawn, with_turn, looked, counted, grown, added, idling, passed, staying, stayed, resumed, released, split_left, split_right, joined, spent_view, first_view, plain, Has, EndsPasses}
 use Rattle.turn_lock.proofs.Totals.{total_set, total_snoc, total_at, total_finds, total_within, each_set, each_maps, each-append, put, put_here, put_else, at_end, total-append}
 
 -- another seat's stage, where a ticket is drawn
@@ -300,7 +300,7 @@ module _ {M : Type 0} (list : M → List Entry) (same : M → M → Type 0) (o :
   passes_on slots id rt a next t known x room keeps_known same_rt s r deep at fits =
       let v : SeatView M = plain rt a next (Holds t known) in
       let f = r.each id v at in let mine = f.stage.2 in let now = f.stage.0 in let below = f.stage.1 in let knows = f.stage.3 in
-      let log : List Entry = list root ++ r.added in let w : SeatView M = rested v in let lo = low s r in
+      let log : List Entry = list root ++ r.added in let w : SeatView M = idling v in let lo = low s r in
       let holds_now = total_at holds_slot s.views id v at in (
         w,
         gives,

@@ -182,8 +182,8 @@ module _ {M : Type 0} where
         accounts = gained xs (drop (length (known_in v.stage)) xs) v.accounts;
       }
 
-  abbrev pub rested : SeatView M → SeatView M
-  rested v = record v { stage = Idle; accounts = saw (known_in v.stage) v.accounts }
+  abbrev pub idling : SeatView M → SeatView M
+  idling v = record v { stage = Idle; accounts = saw (known_in v.stage) v.accounts }
 
   abbrev pub staying : SeatView M → SeatView M
   staying v =
@@ -224,7 +224,7 @@ module _ {M : Type 0} where
 
   -- pass on: the slot goes home
   abbrev pub passed : (M → List Entry) → Step (Spot M) → Standing M → ℕ → Standing M → Type 0
-  passed list st m n m' = (m' ≡ (rested m.0, [])) × Tells list m
+  passed list st m n m' = (m' ≡ (idling m.0, [])) × Tells list m
 
   -- stay: the slot goes home, and the ticket stays served
   abbrev pub stayed : (M → List Entry) → Step (Spot M) → Standing M → ℕ → Standing M → Type 0

@@ -29,7 +29,7 @@ AcceptedIsTheModel =
 
 -- an event that is listed is in the set, and blocked in the set where it is blocked among those
 -- listed
-pub record Tells (x : HappenedView) (l : Listed) (e : Prioritised) : Type 0 where
+pub record ListsTruly (x : HappenedView) (l : Listed) (e : Prioritised) : Type 0 where
   pub there : IsTrue (has (set_in l).events e) → IsTrue (has x.events e)
   pub blocked_there : IsTrue (blocked (set_in l) e) → IsTrue (blocked x e)
 
@@ -39,4 +39,4 @@ AcceptedTells =
     → (birth : ℕ) (h : List Entry) (cert : List Listed) (m : Model)
     → Accepts p birth h cert → IsExecutionModel p birth h m
     → (t : ℕ) → birth < t → t ≤ now_of birth h → (l : Listed) → listed_at cert t ≡ Some l
-    → (e : Prioritised) → Tells (m t) l e
+    → (e : Prioritised) → ListsTruly (m t) l e

@@ -13,7 +13,7 @@ use Rattle.gtrbac_model.specs.Sessions.{Table, Activation, is_dropped, signal_of
 use Rattle.instant_bases.specs.Timelines.{TimelineView, Signals}
 use Rattle.session_table.specs.Plans.{DropsView, need_of}
 use Rattle.session_table.specs.Tables.{NotBefore, table_of, charged_through, dropped_at, closed_at}
-use Rattle.core_machine.specs.Books.{BookView, GoesOn}
+use Rattle.core_machine.specs.Books.{BookView, TicksFurther}
 use Rattle.core_machine.specs.Steps.{with_signals}
 use Rattle.core_machine.proofs.Asks.{signals_only, signals_told}
 use Rattle.core_machine.proofs.Ticks.{kept_tick, kept_again, goes_tick}
@@ -80,6 +80,6 @@ returns-clause-ok c =
     let new : BookView = record { named = s.ground; birth = s.birth; entries = s.entries.items ++ ticked c.args.who c.args.upto c.args.plan.at ∷ []; trace = w.trace } in
     let is : record { named = s.ground; birth = s.birth; entries = c.push.new.self.items; trace = c.add_signals.new.line.line.trace } ≡ new =
     λ i. record { named = s.ground; birth = s.birth; entries = entries_are c i; trace = ((c.add_signals.ensures ∙ signals_only w xs) i).trace } in
-    subst (λ (b : BookView). GoesOn old b c.args.who c.args.upto c.args.plan.at) (sym is)
+    subst (λ (b : BookView). TicksFurther old b c.args.who c.args.upto c.args.plan.at) (sym is)
     (goes_tick s.ground.policy s.birth s.entries.items s.line.line (table_of s.table) s.table.charged_to c.requires.kept c.keeps.ensures c.args.who c.args.upto c.keeps-2.ensures
     c.args.plan c.requires.closing.plans c.requires.closing.stop w c.commit.ensures.after (with_signals w xs).signals (table_of c.commit_end.new.self) xs (closed c) (waits c) c.requires.room s.ground refl)

@@ -9,7 +9,7 @@ use Rattle.session_table.specs.NextDrops.{is_any_capped}
 use Rattle.session_table.specs.Plans.{IsDropPlan, need_of}
 use Rattle.session_table.specs.Tables.{table_of}
 use Rattle.session_table.specs.declared.tables.Sessions.{Sessions}
-use Rattle.core_machine.specs.Books.{BookView, GoesOn}
+use Rattle.core_machine.specs.Books.{BookView, TicksFurther}
 use Rattle.core_machine.specs.Coherent.{Same, view_of}
 use Rattle.core_machine.specs.Steps.{moves}
 use Rattle.core_machine.proofs.Growing.{both_false}
@@ -73,5 +73,5 @@ close-requires-clause-signals_room c = omega (arith, c.len.ensures, ap (λ (xs :
 pub returns-clause-ok : goal.returns-clause-ok
 returns-clause-ok c =
     let s = c.args.s.now in
-    subst (λ (t : ℕ). GoesOn (view_of s) (view_of c.close.new.s) c.args.who c.args.upto t) c.in_ok-plan.ensures.at
-    (subst (λ (b : BookView). GoesOn b (view_of c.close.new.s) c.args.who c.args.upto c.in_ok-plan.plan.at) (same_view s c.make_room.new.s (all_same (goal.at.returns-clause-ok c).In_ok-make_room)) c.close.ensures.ok)
+    subst (λ (t : ℕ). TicksFurther (view_of s) (view_of c.close.new.s) c.args.who c.args.upto t) c.in_ok-plan.ensures.at
+    (subst (λ (b : BookView). TicksFurther b (view_of c.close.new.s) c.args.who c.args.upto c.in_ok-plan.plan.at) (same_view s c.make_room.new.s (all_same (goal.at.returns-clause-ok c).In_ok-make_room)) c.close.ensures.ok)

@@ -9,8 +9,8 @@ use Rattle.gtrbac_tool.specs.declared.script.Played.{Played}
 use Rattle.gtrbac_tool.specs.declared.script.Played.TheVariants.{On, Full, Bad}
 use Rattle.gtrbac_tool.specs.declared.script.Ran.TheVariants.{Born}
 use Rattle.gtrbac_tool.specs.EndTexts.{behind, script_fault, steps_full}
-use Rattle.gtrbac_tool.specs.Script.{said, Plays, at_birth}
-use Rattle.gtrbac_tool.specs.Going.{going_of, IsActorOf, PlaysAs}
+use Rattle.gtrbac_tool.specs.Script.{said, MovesThrough, at_birth}
+use Rattle.gtrbac_tool.specs.RunStates.{run_state_of, IsActorOf, PlaysAs}
 use Rattle.gtrbac_tool.proofs.Steps.{plays_more, rooted}
 use Rattle.gtrbac_tool.proofs.Writing.{hands_none, hands_on}
 use Rattle.gtrbac_tool.proofs.Pieces.{plays_after, starves, fails, finishes, stops_there, after}
@@ -37,8 +37,8 @@ loop-line-preserved g c =
     let old = c.loop-line.run in
     let new = c.play_line.new.run in
     let line : List ℕ = c.in-Some.line.now in
-    let s = going_of old.book old.actor old.text.items in
-    let t = going_of new.book new.actor new.text.items in
+    let s = run_state_of old.book old.actor old.text.items in
+    let t = run_state_of new.book new.actor new.text.items in
     let did = rooted b0 old.book line On s t inv.root (subst (λ (how : Played). PlaysAs old.book.named old.book.birth (said old.book.named line) how s t) c.in-On.is c.in-Ok.ensures.did) in
     let sends = c.in-Ok-hand_out.ensures.sent in
     record {
@@ -48,7 +48,7 @@ loop-line-preserved g c =
       parts = inv.parts ∙ ap (λ (ls : List (List ℕ)). inv.front ++ ls) c.in-Some.ensures.steps ∙ sym (append_assoc inv.front (line ∷ []) c.next.new.self);
       sent = inv.sent ++ sends.0;
       plays =
-          subst (λ (x : List ℕ). Plays b0.named b0.birth (inv.front ++ line ∷ []) (at_birth b0.named b0.birth) (going_of new.book new.actor x))
+          subst (λ (x : List ℕ). MovesThrough b0.named b0.birth (inv.front ++ line ∷ []) (at_birth b0.named b0.birth) (run_state_of new.book new.actor x))
           (ap (λ (x : List ℕ). inv.sent ++ x) sends.1 ∙ sym (append_assoc inv.sent sends.0 c.hand_out.new.text.items))
           (plays_more b0.named b0.birth inv.front line (at_birth b0.named b0.birth) (after inv.sent s) (after inv.sent t) inv.plays (plays_after b0.named b0.birth inv.sent (said b0.named line) On s t did));
       at = omega (arith, inv.at, length-append inv.front (line ∷ []));
@@ -64,8 +64,8 @@ returns-in-Err-hand_out g c =
     let old = c.loop-line.run in
     let new = c.play_line.new.run in
     let line : List ℕ = c.in-Some.line.now in
-    let s = going_of old.book old.actor old.text.items in
-    let t = going_of new.book new.actor new.text.items in
+    let s = run_state_of old.book old.actor old.text.items in
+    let t = run_state_of new.book new.actor new.text.items in
     let did = rooted b0 old.book line On s t inv.root (subst (λ (how : Played). PlaysAs old.book.named old.book.birth (said old.book.named line) how s t) c.in-On.is c.in-Ok.ensures.did) in
     fails b0 new.book (SameRoot-trans b0 old.book new.book inv.root c.in-Ok.ensures.root) c.keeps-in-On.ensures.kept.legal c.args.before c.args.lines (inv.front ++ line ∷ []) c.next.new.self
     (inv.parts ∙ ap (λ (ls : List (List ℕ)). inv.front ++ ls) c.in-Some.ensures.steps ∙ sym (append_assoc inv.front (line ∷ []) c.next.new.self))
@@ -89,8 +89,8 @@ returns-in-Full g c =
     let old = c.loop-line.run in
     let new = c.play_line.new.run in
     let line : List ℕ = c.in-Some.line.now in
-    let s = going_of old.book old.actor old.text.items in
-    let t = going_of new.book new.actor new.text.items in
+    let s = run_state_of old.book old.actor old.text.items in
+    let t = run_state_of new.book new.actor new.text.items in
     let did = rooted b0 old.book line Full s t inv.root (subst (λ (how : Played). PlaysAs old.book.named old.book.birth (said old.book.named line) how s t) c.in-Full.is c.in-Ok.ensures.did) in
     stops_there b0 old.book new.book (SameRoot-trans b0 old.book new.book inv.root c.in-Ok.ensures.root) c.keeps-in-Full.ensures.kept.legal c.args.before c.loop-line.number c.args.lines inv.front c.loop-line.lines c.next.new.self line
     inv.parts c.in-Some.ensures.steps old.actor inv.sent old.text.items inv.plays inv.at
@@ -105,8 +105,8 @@ returns-in-Bad g c =
     let new = c.play_line.new.run in
     let line : List ℕ = c.in-Some.line.now in
     let fault = c.in-Bad.fault in
-    let s = going_of old.book old.actor old.text.items in
-    let t = going_of new.book new.actor new.text.items in
+    let s = run_state_of old.book old.actor old.text.items in
+    let t = run_state_of new.book new.actor new.text.items in
     let did = rooted b0 old.book line (Bad fault) s t inv.root (subst (λ (how : Played). PlaysAs old.book.named old.book.birth (said old.book.named line) how s t) c.in-Bad.is c.in-Ok.ensures.did) in
     let kind : ℕ → EndView = λ n. script_fault n (fault_word fault) in
     let told =

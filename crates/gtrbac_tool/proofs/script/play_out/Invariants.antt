@@ -1,7 +1,7 @@
 use Rattle.std.proofs.Common.{◌≡◌, ◌+◌, ◌<◌, ◌^◌, List, ◌++◌, length, ℕ}
 use Rattle.core_machine.specs.Books.{SameRoot}
-use Rattle.gtrbac_tool.specs.Script.{Plays, at_birth}
-use Rattle.gtrbac_tool.specs.Going.{going_of, IsActorOf}
+use Rattle.gtrbac_tool.specs.Script.{MovesThrough, at_birth}
+use Rattle.gtrbac_tool.specs.RunStates.{run_state_of, IsActorOf}
 use Rattle.gtrbac_tool.specs.Writing.{Hands}
 use Rattle.gtrbac_tool.proofs.script.play_out.Given as goal
 
@@ -14,7 +14,7 @@ invariant-loop-line g l =
       front : List (List ℕ);
       parts : l.initial.lines ≡ front ++ l.lines;
       sent : List ℕ;
-      plays : Plays l.initial.run.book.named l.initial.run.book.birth front (at_birth l.initial.run.book.named l.initial.run.book.birth) (going_of l.run.book l.run.actor (sent ++ l.run.text.items));
+      plays : MovesThrough l.initial.run.book.named l.initial.run.book.birth front (at_birth l.initial.run.book.named l.initial.run.book.birth) (run_state_of l.run.book l.run.actor (sent ++ l.run.text.items));
       at : l.number ≡ l.before + length front;
       count : l.number + length l.lines < 2 ^ 32;
       hands : Hands l.pieces (g.K.Sink.output l.fn.out) (g.K.Sink.output l.out) sent;

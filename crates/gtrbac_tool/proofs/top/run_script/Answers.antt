@@ -6,7 +6,7 @@ use Rattle.gt_io.specs.declared.source.ReadFault.{ReadFault}
 use Rattle.policy_commands.specs.Finding.{read_fault, too_long}
 use Rattle.gtrbac_tool.specs.Ends.{PlaysTo, ScriptEnds}
 use Rattle.gtrbac_tool.specs.Reading.{Reads}
-use Rattle.gtrbac_tool.specs.Writing.{Tells}
+use Rattle.gtrbac_tool.specs.Writing.{PrintsEnd}
 use Rattle.gtrbac_tool.specs.declared.top.TheConstants.{MAX_SCRIPT}
 use Rattle.gtrbac_tool.proofs.Reading.{no_run}
 use Rattle.gtrbac_tool.proofs.Writing.{tells_so}
@@ -24,7 +24,7 @@ returns-in-Ok g c =
       tells =
           tells_so c.play.result a b (asked ≡ None) (asked ≡ None) (PlaysTo np asked script) (Reads ⊤ (λ failed. ScriptEnds failed np asked) (g.I.Source.intake c.args.input.now) (g.I.Source.intake c.read_all.new.source)) (λ p. p)
           (λ end ends. (inr (inr (script, c.in-Ok.ensures.whole, short, ends)), inr c.in-Ok.ensures.cause, λ _ _. c.in-Ok.ensures.end))
-          (subst (λ (t : List ℕ). Tells (asked ≡ None) (PlaysTo np asked t) c.play.result a b) c.deref.ensures.value c.play.ensures);
+          (subst (λ (t : List ℕ). PrintsEnd (asked ≡ None) (PlaysTo np asked t) c.play.result a b) c.deref.ensures.value c.play.ensures);
       once = c.read_all.ensures.once;
       short = c.read_all.ensures.front;
       untouched = inr tt;

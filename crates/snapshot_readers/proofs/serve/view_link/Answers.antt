@@ -3,7 +3,7 @@ use Rattle.gt_base.specs.Roomy.{Roomy}
 use Rattle.connection_laws.specs.Attending.{spot, Attends}
 use Rattle.snapshot_readers.specs.Glazed.{Glazed}
 use Rattle.snapshot_readers.specs.Guides.{guide_view, GuideAsks}
-use Rattle.snapshot_readers.specs.Viewing.{SameGlass, Views}
+use Rattle.snapshot_readers.specs.Viewing.{SameGlassRoot, Views}
 use Rattle.snapshot_readers.proofs.Glancing.{viewed}
 use Rattle.snapshot_readers.proofs.Lent.{lent_attends}
 use Rattle.snapshot_readers.proofs.serve.view_link.Goals as goal
@@ -13,7 +13,7 @@ returns-clause-glass g c =
     let x = c.attend-end in
     let t = g.L.Link in
     let same = (lent_attends _ x.new.answerer c.new-hearing.result.talk x.new.hearing.talk (t.traffic c.args.link).given (t.traffic x.new.link).given (t.traffic c.args.link) (t.traffic x.new.link) x.result x.ensures.attends).0 in
-    subst (λ (y : Glazed). SameGlass c.args.glass.now y) (sym (c.glass-1.given.1 (sym x.ensures.keeps.1))) same.1
+    subst (λ (y : Glazed). SameGlassRoot c.args.glass.now y) (sym (c.glass-1.given.1 (sym x.ensures.keeps.1))) same.1
 
 pub returns-clause-views : goal.returns-clause-views
 returns-clause-views g c =

@@ -1,6 +1,6 @@
 use Rattle.std.proofs.Common.{◌≡◌, ◌<◌, ◌≤◌, ◌⊎◌, inl, inr, length, refl, sym, ap, subst, ◌∙◌, arith}
 use Rattle.std.proofs.lemmas.Result.{IfOk-weaker, on_err_weaker}
-use Rattle.core_machine.specs.Books.{BookView, GoesOn, IsLegalBook, Ticks, now_in}
+use Rattle.core_machine.specs.Books.{BookView, TicksFurther, IsLegalBook, Ticks, now_in}
 use Rattle.core_machine.specs.Coherent.{view_of}
 use Rattle.std.proofs.lemmas.Map.Keys.{le_from_is_le}
 use Rattle.gt_base.specs.declared.limits.TheConstants.{MAX_STEPS}
@@ -40,8 +40,8 @@ returns-clause-ok c =
     let later : now_in c.args.self.now < c.args.upto = omega (arith, now_is (goal.at.returns-clause-ok c).After-le, past c.args.upto c.now-now.result (sym c.le.ensures ∙ c.if-le.false)) in
     rw c.or_memory.ensures
     (step_ok c.go_on.result (λ to. Ticks c.args.self.now c.args.who c.args.upto to new)
-    (IfOk-weaker c.go_on.result (λ to. GoesOn (view_of c.self.inside.state) new c.args.who c.args.upto to) (λ to. Ticks c.args.self.now c.args.who c.args.upto to new)
-    (λ to g. inr (later, subst (λ (b : BookView). GoesOn b new c.args.who c.args.upto to) c.self.view_is g)) c.go_on.ensures.ok))
+    (IfOk-weaker c.go_on.result (λ to. TicksFurther (view_of c.self.inside.state) new c.args.who c.args.upto to) (λ to. Ticks c.args.self.now c.args.who c.args.upto to new)
+    (λ to g. inr (later, subst (λ (b : BookView). TicksFurther b new c.args.who c.args.upto to) c.self.view_is g)) c.go_on.ensures.ok))
 
 pub returns-clause-legal : goal.returns-clause-legal
 returns-clause-legal c = c.go_on.ensures.kept.legal

@@ -12,11 +12,11 @@ use Rattle.request_text.specs.Replies.{fault_word}
 use Rattle.gtrbac_tool.specs.declared.script.Played.{Played}
 use Rattle.gtrbac_tool.specs.declared.script.Played.TheVariants.{On, Full, Bad}
 use Rattle.gtrbac_tool.specs.EndTexts.{behind, script_fault, steps_full}
-use Rattle.gtrbac_tool.specs.Script.{Going, Moves, Stops, RunOver}
+use Rattle.gtrbac_tool.specs.Script.{RunState, Moves, Stops, RunOver}
 
 -- where a run over a book stands
-abbrev pub going_of : BookView → Actor → List ℕ → Going
-going_of b actor text = record { actor = actor; history = b.entries; text = text }
+abbrev pub run_state_of : BookView → Actor → List ℕ → RunState
+run_state_of b actor text = record { actor = actor; history = b.entries; text = text }
 
 -- the actor is one that the policy has
 abbrev pub IsActorOf : BookView → Actor → Type 0
@@ -27,7 +27,7 @@ played_as true = On
 played_as false = Full
 
 -- the line moves the run, or stops it behind the text so far
-abbrev pub PlaysAs : NamedPolicy → ℕ → Result Line LineFault → Played → Going → Going → Type 0
+abbrev pub PlaysAs : NamedPolicy → ℕ → Result Line LineFault → Played → RunState → RunState → Type 0
 PlaysAs np birth line On s t = Moves np birth line s t
 PlaysAs np birth line Full s t =
     (t.text ≡ s.text) × ((n : ℕ) → Stops np birth line n s t.history (behind s.text (steps_full n)))
